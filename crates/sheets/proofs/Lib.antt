@@ -1,3 +1,4 @@
+pub mod Bytewise
 pub mod Cuts
 pub mod Places
 pub mod Rows

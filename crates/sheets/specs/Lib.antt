@@ -1,3 +1,5 @@
+pub mod Bytes
 pub mod Lines
+pub mod Names
 pub mod Pieces
 pub mod Refusals

@@ -2,5 +2,6 @@
 pub mod faults;
 pub mod faulty_line;
 pub mod lines;
+pub mod names;
 pub mod pieces;
 pub mod refusals;
