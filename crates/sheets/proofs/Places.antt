@@ -1,19 +1,19 @@
 -- What stands at a place of a list, as a loop that drops one element a turn comes to it. Assumes nothing.
 use mathlib.Core.Path.{_≡_, refl, sym, ap, _∙_}
 use mathlib.Core.Bool.{Bool, true, false, not}
-use mathlib.Core.List.{List, [], _∷_}
+use mathlib.Core.List.{List, [], _∷_, _++_}
 use mathlib.Core.Logic.{⊎-elim}
 use Prim.Native.Nat.{ℕ, zero, suc, _+_, _-_, _≤_, _<_}
 use native.Mathlib.Omega.{arith}
 use lib.Dec.{eqb, ltb}
-use lib.ListN.{length, drop, length-drop}
+use lib.ListN.{length, take, drop, length-drop}
 use Rattle.std.specs.declared.option.Option.{Option}
 use Rattle.std.specs.declared.option.Option.the-variants.{None, Some}
 use Rattle.std.specs.Options.{isSome, mapped}
 use Rattle.std.specs.shelf.Maps.{nth}
-use Rattle.std.proofs.shelf.Lists.{drop-drop}
-use Rattle.std.proofs.shelf.Maps.{nth-past}
-use Rattle.std.proofs.shelf.Tests.{lt-ltb, le-ltb, cases-lt}
+use Rattle.std.proofs.shelf.Lists.{drop-drop, take-more}
+use Rattle.std.proofs.shelf.Maps.{nth-past, nth-getD}
+use Rattle.std.proofs.shelf.Tests.{lt-ltb, le-ltb, ltb-true, cases-lt}
 use Rattle.std.proofs.shelf.Ways.{tells}
 
 nth-drop : {X : Type 0} (xs : List X) (i : ℕ) → nth xs i ≡ nth (drop i xs) 0
@@ -59,3 +59,16 @@ module _ {X Y : Type 0} (f : X → Y) (xs : List Y) (n : ℕ) where
   uncounted before some was none =
       let past = told f before xs (n - 1) was in
       grind (arith, tells)
+
+pub same-some : {X : Type 0} (x y : X) → Some x ≡ Some y → x ≡ y
+same-some x y e = cc
+
+-- a place with an element is below the length
+pub nth-within : {X : Type 0} (xs : List X) (i : ℕ) (x : X) → nth xs i ≡ Some x → i < length xs
+nth-within xs i x here = ltb-true i (length xs) (sym (some-nth xs i) ∙ ap isSome here)
+
+-- one element more in front of a place
+pub take-next : {X : Type 0} (xs : List X) (i : ℕ) (x : X) (ys : List X) → drop i xs ≡ x ∷ ys → take (i + 1) xs ≡ take i xs ++ x ∷ []
+take-next xs i x ys here =
+    let within : i < length xs = nth-within xs i x (nth-here xs i x ys here) in
+    take-more xs i x within ∙ ap (λ y. take i xs ++ y ∷ []) (same-some _ _ (sym (nth-getD xs i x within) ∙ nth-here xs i x ys here))

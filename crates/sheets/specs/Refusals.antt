@@ -57,3 +57,7 @@ detailsOf GoalFalse = noDetail
 detailsOf UnknownNumber = noDetail
 detailsOf BufferShort = noDetail
 detailsOf NoMemory = noDetail
+
+-- What decides which of two refusals is told, the lower before the higher: the number, and then the details.
+abbrev pub rankOf : Refusal → List ℕ
+rankOf w = numberOf w ∷ detailsOf w

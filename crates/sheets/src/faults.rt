@@ -1,4 +1,6 @@
 // A refusal with the place that it speaks of.
+ghost use mathlib.Core.Path.{_≡_};
+ghost use Rattle.std.specs.declared.option.Option.the-variants.{Some};
 use crate::refusals::Refusal;
 
 // The two sheets that a caller brings.
@@ -14,4 +16,15 @@ pub struct Fault {
     pub sheet: Option<Sheet>,
     pub line: usize,
     pub refusal: Refusal,
+}
+
+impl Fault {
+    // A refusal of a line of a sheet, or of the whole sheet, told at line 0.
+    pub fn on(sheet: Sheet, line: usize, refusal: Refusal) -> Fault
+        ensures sheet { λ r. ⌜ r .sheet ≡ Some sheet ⌝ }
+        ensures line { λ r. ⌜ r .line ≡ line ⌝ }
+        ensures refusal { λ r. ⌜ r .refusal ≡ refusal ⌝ }
+    {
+        Fault { sheet: Some(sheet), line, refusal }
+    }
 }
