@@ -1,0 +1,3 @@
+pub mod Layout
+pub mod Refused
+pub mod Written

@@ -1,0 +1,3 @@
+// What the checker prints.
+pub mod layout_report;
+pub mod refused;
