@@ -1,0 +1,5 @@
+// Sheets with the verdicts that the rules give them, worked out by hand.
+#[cfg(test)]
+mod layouts;
+#[cfg(test)]
+mod shown_lines;
