@@ -5,4 +5,6 @@ pub mod LaidOut
 pub mod Places
 pub mod Rows
 pub mod Sheetwise
+pub mod Single
+pub mod Splitting
 pub mod Table

@@ -2,6 +2,7 @@
 pub mod bytes;
 pub mod faults;
 pub mod faulty_line;
+pub mod laws;
 pub mod layout;
 pub mod letters;
 pub mod lines;
