@@ -2,3 +2,4 @@ pub mod Bytewise
 pub mod Cuts
 pub mod Places
 pub mod Rows
+pub mod Sought

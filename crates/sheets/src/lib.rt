@@ -2,6 +2,7 @@
 pub mod faults;
 pub mod faulty_line;
 pub mod lines;
+pub mod listed;
 pub mod names;
 pub mod pieces;
 pub mod refusals;

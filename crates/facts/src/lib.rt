@@ -1,0 +1,4 @@
+// Facts and their kinds: how a fact is read, which facts are the same, which carries which, which are always true.
+pub mod kinds;
+pub mod names;
+pub mod sighted;
