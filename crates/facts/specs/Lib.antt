@@ -1,0 +1,5 @@
+pub mod Parts
+pub mod Plain
+pub mod Sight
+pub mod Texts
+pub mod Watchers

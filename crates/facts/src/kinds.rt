@@ -4,6 +4,7 @@ ghost use mathlib.Core.List.{List};
 ghost use mathlib.Core.Path.{_≡_};
 ghost use Prim.Native.Nat.{ℕ};
 ghost use Rattle.std.specs.declared.result.Result.{Result};
+ghost use Rattle.std.specs.shelf.Text.{sameBytes};
 ghost use Rattle.facts.specs.declared.names.Names.{Names};
 ghost use Rattle.facts.specs.declared.names.NoFact.{NoFact};
 use crate::names::Names;
@@ -29,9 +30,9 @@ pub trait Kind {
 
     law transitive: { (a b c : Self·Fact) → carrying a b ≡ true → carrying b c ≡ true → carrying a c ≡ true };
 
-    // The word that names the kind in a sheet.
-    fn word() -> &'static [u8]
-        ensures { λ r. ⌜ now r ≡ wording ⌝ };
+    // Whether a text is the word that names the kind in a sheet.
+    fn is_word(text: &[u8]) -> bool
+        ensures { λ r. ⌜ r ≡ sameBytes (now (text .entry)) wording ⌝ };
 
     // The fact that a text is under the names that a sheet lists.
     fn read(names: &Names, text: &[u8]) -> Result<Self::Fact, NoFact>

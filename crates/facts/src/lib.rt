@@ -1,4 +1,5 @@
 // Facts and their kinds: how a fact is read, which facts are the same, which carries which, which are always true.
 pub mod kinds;
 pub mod names;
+pub mod plain;
 pub mod sighted;

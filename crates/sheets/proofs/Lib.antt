@@ -3,3 +3,4 @@ pub mod Cuts
 pub mod Places
 pub mod Rows
 pub mod Sought
+pub mod Words
