@@ -5,7 +5,7 @@ use mathlib.Core.Path.{_≡_}
 use Prim.Native.Nat.{ℕ, min, _≤_}
 use native.Mathlib.Nat.{min-le-right}
 use lib.Dec.{eqb}
-use lib.ListN.{length, take, getD, replicate}
+use lib.ListN.{length, take, drop, getD, replicate}
 use Rattle.std.specs.declared.option.Option.{Option}
 use Rattle.std.specs.declared.option.Option.the-variants.{None, Some}
 use Rattle.std.specs.declared.result.Result.{Result}
@@ -24,13 +24,17 @@ use Rattle.facts.specs.Watchers.{sameWatchers, carriesBy, CarriesBy, idle}
 abbrev pub watchersOf : SightFact → List Watcher
 watchersOf f = take (f .count) (f .watchers)
 
--- Watchers as a fact keeps them: in a row of five places, those past the watchers filled with one value.
-abbrev pub rowOf : List Watcher → List Watcher
-rowOf ws = take 5 (ws ++ replicate 5 All)
+-- A row of five places before any watcher is put there.
+abbrev pub freshRow : List Watcher
+freshRow = replicate 5 All
+
+-- Watchers put into the first places of a row.
+abbrev pub putInto : List Watcher → List Watcher → List Watcher
+putInto row ws = ws ++ drop (length ws) row
 
 -- The fact with these watchers, of which there are at most five, and this matter.
 abbrev pub factOf : List Watcher → ℕ → SightFact
-factOf ws m = record { watchers = rowOf ws; count = min (length ws) 5; matter = m; few = min-le-right (length ws) 5 }
+factOf ws m = record { watchers = putInto freshRow ws; count = min (length ws) 5; matter = m; few = min-le-right (length ws) 5 }
 
 -- The fact of watchers and a matter, if every zone and the matter are listed.
 abbrev pub sightFact : Option (List Watcher) → Option ℕ → Result SightFact NoFact
@@ -42,17 +46,17 @@ sightFact (Some ws) (Some m) = Ok (factOf ws m)
 abbrev pub sightReading : List (List ℕ) → List (List ℕ) → List ℕ → Result SightFact NoFact
 sightReading zones matters text = cond (formed (partsOf text)) (sightFact (watchersIn zones (partsOf text)) (placeOf (lastOf (partsOf text)) matters)) (Err NotItsForm)
 
--- Two facts are the same if they have the same watchers in the same order and the same matter.
+-- Two facts are the same if they have the same matter, and the same watchers in the same order.
 abbrev pub sightSame : SightFact → SightFact → Bool
-sightSame a b = sameWatchers (watchersOf a) (watchersOf b) && eqb (a .matter) (b .matter)
+sightSame a b = eqb (a .matter) (b .matter) && sameWatchers (watchersOf a) (watchersOf b)
 
 -- A fact carries facts of its own matter, as its watchers have it.
 abbrev pub sightCarries : SightFact → SightFact → Bool
-sightCarries a b = carriesBy (watchersOf a) (watchersOf b) && eqb (a .matter) (b .matter)
+sightCarries a b = eqb (a .matter) (b .matter) && carriesBy (watchersOf a) (watchersOf b)
 
 -- The same in words.
 abbrev pub Carries : SightFact → SightFact → Type 0
-Carries a b = CarriesBy (watchersOf a) (watchersOf b) × (a .matter ≡ b .matter)
+Carries a b = (a .matter ≡ b .matter) × CarriesBy (watchersOf a) (watchersOf b)
 
 -- A fact is always true if its watchers say what is true anyway, whatever the matter.
 abbrev pub sightCertain : SightFact → Bool

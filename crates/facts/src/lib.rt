@@ -2,4 +2,6 @@
 pub mod kinds;
 pub mod names;
 pub mod plain;
+pub mod sight;
+mod sight_text;
 pub mod sighted;

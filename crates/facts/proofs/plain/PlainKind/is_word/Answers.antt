@@ -1,4 +1,3 @@
-use lib.Chars.{codes}
 use Rattle.sheets.proofs.Words.{is-same}
 use Rattle.facts.proofs.plain.PlainKind.is_word.Needs as need
 

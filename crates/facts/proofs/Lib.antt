@@ -1,0 +1,4 @@
+pub mod Carrying
+pub mod Idleness
+pub mod Partwise
+pub mod Readings
