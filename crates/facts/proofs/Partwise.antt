@@ -74,18 +74,18 @@ module _ (zones parts : List (List ℕ)) (fresh : List Watcher) where
   put-none left few cut = (omega (arith, ap length cut), ([], refl, refl, ap (watchersIn zones) cut ∙ sym (after-none _)))
 
   module _ (row : List Watcher) (n : ℕ) where
-    pub put-more : (part next : List ℕ) (later after : List (List ℕ)) (w : Watcher) → length fresh ≡ 5 → after ≡ next ∷ later → watcherOf zones part ≡ Some w → Put row n (part ∷ after) → Put (set row n w) (n + 1) (next ∷ later)
+    pub put-more : (part next : List ℕ) (later after : List (List ℕ)) (w : Watcher) → length fresh ≡ 5 → after ≡ next ∷ later → Some w ≡ watcherOf zones part → Put row n (part ∷ after) → Put (set row n w) (n + 1) (next ∷ later)
     put-more part next later after w five cut named sofar =
         let few = sofar .0 in
         let ws = sofar .1 .0 in
         let count = sofar .1 .1 in
         let within : length ws < length fresh = omega (arith, ap length cut) in
         (omega (arith, ap length cut),
-         (ws ++ w ∷ [], length-push ws w ∙ ap (λ k. k + 1) count, ap (λ r. set r n w) (sofar .1 .2) ∙ ap (λ k. set (putInto fresh ws) k w) (sym count) ∙ put-push fresh ws w within, sofar .1 .3 ∙ ap (λ ps. afterThese ws (watchersIn zones (part ∷ ps))) cut ∙ ap (λ o. afterThese ws (followed o (watchersIn zones (next ∷ later)))) named ∙ after-push ws w (watchersIn zones (next ∷ later))))
+         (ws ++ w ∷ [], length-push ws w ∙ ap (λ k. k + 1) count, ap (λ r. set r n w) (sofar .1 .2) ∙ ap (λ k. set (putInto fresh ws) k w) (sym count) ∙ put-push fresh ws w within, sofar .1 .3 ∙ ap (λ ps. afterThese ws (watchersIn zones (part ∷ ps))) cut ∙ ap (λ o. afterThese ws (followed o (watchersIn zones (next ∷ later)))) (sym named) ∙ after-push ws w (watchersIn zones (next ∷ later))))
 
-    pub put-fails : (part : List ℕ) (after : List (List ℕ)) → 0 < length after → watcherOf zones part ≡ None → Put row n (part ∷ after) → watchersIn zones parts ≡ None
+    pub put-fails : (part : List ℕ) (after : List (List ℕ)) → 0 < length after → None ≡ watcherOf zones part → Put row n (part ∷ after) → watchersIn zones parts ≡ None
     put-fails part [] some unlisted sofar = absurd (omega arith)
-    put-fails part (next ∷ later) some unlisted sofar = sofar .1 .3 ∙ ap (λ o. afterThese (sofar .1 .0) (followed o (watchersIn zones (next ∷ later)))) unlisted
+    put-fails part (next ∷ later) some unlisted sofar = sofar .1 .3 ∙ ap (λ o. afterThese (sofar .1 .0) (followed o (watchersIn zones (next ∷ later)))) (sym unlisted)
 
     pub put-all : (part : List ℕ) → Put row n (part ∷ []) → (n ≤ 5) × ((ws : List Watcher) × (watchersIn zones parts ≡ Some ws) × (length ws ≡ n) × (row ≡ putInto fresh ws))
     put-all part sofar =

@@ -1,3 +1,5 @@
+pub mod Listed
+pub mod Meaning
 pub mod Parts
 pub mod Plain
 pub mod Sight

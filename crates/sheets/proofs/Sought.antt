@@ -2,13 +2,16 @@
 use mathlib.Core.Path.{_≡_, refl, sym, ap, _∙_}
 use mathlib.Core.Bool.{Bool, true, false, cond}
 use mathlib.Core.List.{List, [], _∷_, map}
-use Prim.Native.Nat.{ℕ, _+_, _≤_, _<_}
+use Prim.Native.Nat.{ℕ, suc, _+_, _≤_, _<_}
 use native.Mathlib.Nat.{add-assoc, add-zero}
+use native.Mathlib.Omega.{arith}
 use lib.ListN.{length, drop, getD}
 use Rattle.std.specs.declared.option.Option.the-variants.{None, Some}
+use Rattle.std.specs.shelf.Text.{sameBytes}
+use Rattle.std.proofs.shelf.Equals.{sameBytes-decides}
 use Rattle.std.proofs.shelf.Lists.{at-drop-more, at-drop-all}
 use Rattle.std.proofs.shelf.Tests.{cond-true, cond-false}
-use Rattle.sheets.specs.Listed.{firstFrom}
+use Rattle.sheets.specs.Listed.{firstFrom, placeOf}
 
 -- the elements from i on have the answer, since none before them passes
 abbrev pub Sought : {X : Type 0} → (X → Bool) → ℕ → List X → ℕ → Type 0
@@ -33,3 +36,19 @@ module _ {X : Type 0} (test : X → Bool) (n : ℕ) (xs : List X) (i : ℕ) (sof
 pub firstFrom-map : {X Y : Type 0} (test : Y → Bool) (f : X → Y) (n : ℕ) (xs : List X) → firstFrom (λ x. test (f x)) n xs ≡ firstFrom test n (map f xs)
 firstFrom-map test f n [] = refl
 firstFrom-map test f n (x ∷ xs) = ap (λ o. cond (test (f x)) (Some n) o) (firstFrom-map test f (n + 1) xs)
+
+-- what stands at the place that is found passes the test
+pub found-passes : {X : Type 0} (test : X → Bool) (n : ℕ) (xs : List X) (k : ℕ) (d : X) → firstFrom test n xs ≡ Some k → (j : ℕ) × (k ≡ n + j) × (test (getD xs j d) ≡ true)
+found-passes test n [] k d found = let no : _≡_ {A = ℕ} 0 1 = cc in absurd (omega arith)
+found-passes test n (x ∷ xs) k d found = by-first (test x) refl (found-passes test (n + 1) xs k d) found
+  where
+    by-first : (t : Bool) → t ≡ test x → (firstFrom test (n + 1) xs ≡ Some k → (j : ℕ) × (k ≡ n + 1 + j) × (test (getD xs j d) ≡ true)) → cond t (Some n) (firstFrom test (n + 1) xs) ≡ Some k → (j : ℕ) × (k ≡ n + j) × (test (getD (x ∷ xs) j d) ≡ true)
+    by-first true passes among found = let here : n ≡ k = cc in (0, omega arith, sym passes)
+    by-first false fails among found = let later = among found in (suc (later .0), omega (arith, later .1), later .2)
+
+-- a text stands where it is found
+pub placed : (text : List ℕ) (texts : List (List ℕ)) (k : ℕ) → placeOf text texts ≡ Some k → getD texts k [] ≡ text
+placed text texts k found =
+    let at = found-passes (λ t. sameBytes t text) 0 texts k [] found in
+    let here : k ≡ at .0 = omega (arith, at .1) in
+    ap (λ j. getD texts j []) here ∙ sameBytes-decides (getD texts (at .0) []) text .0 (at .2)

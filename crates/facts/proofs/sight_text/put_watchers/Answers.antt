@@ -1,4 +1,4 @@
-use mathlib.Core.Path.{_≡_, sym, _∙_}
+use mathlib.Core.Path.{_≡_}
 use mathlib.Core.List.{map}
 use lib.ListN.{length}
 use native.Mathlib.Omega.{arith}
@@ -18,12 +18,12 @@ pub loop-rest-again : need.loop-rest-again
 loop-rest-again c =
     let here = rw (c .in-Some .is) at (c .loop-rest .inv) in
     let five : length (c .args .row .now) ≡ 5 = omega arith in
-    put-more (map textOf (c .args .zones .now)) (partsOf (c .args .text .now)) (c .args .row .now) (c .loop-rest .row) (c .loop-rest .count) (c .loop-rest .part .now) _ _ _ (c .in-Continue-row .field-0) five (c .cut-in-Some .ensures .parts) (sym (c .in-Continue-row .ensures tt)) here
+    put-more (map textOf (c .args .zones .now)) (partsOf (c .args .text .now)) (c .args .row .now) (c .loop-rest .row) (c .loop-rest .count) (c .loop-rest .part .now) _ _ _ (c .in-Continue-row .field-0) five (c .cut-in-Some .ensures .parts) (c .in-Continue-row .ensures tt) here
 
 pub returns-in-Break-row : need.returns-in-Break-row
 returns-in-Break-row c =
     let here = rw (c .in-Some .is) at (c .loop-rest .inv) in
-    rw (c .from-residual .ensures) (put-fails (map textOf (c .args .zones .now)) (partsOf (c .args .text .now)) (c .args .row .now) (c .loop-rest .row) (c .loop-rest .count) (c .loop-rest .part .now) _ (some-piece 46 (c .in-Some .after .now)) (sym (c .in-Break-row .ensures tt)) here)
+    rw (c .from-residual .ensures) (put-fails (map textOf (c .args .zones .now)) (partsOf (c .args .text .now)) (c .args .row .now) (c .loop-rest .row) (c .loop-rest .count) (c .loop-rest .part .now) _ (some-piece 46 (c .in-Some .after .now)) (c .in-Break-row .ensures tt) here)
 
 pub returns : need.returns
 returns c =
