@@ -79,9 +79,10 @@ module _ (zones parts : List (List ℕ)) (fresh : List Watcher) where
         let few = sofar .0 in
         let ws = sofar .1 .0 in
         let count = sofar .1 .1 in
-        let within : length ws < length fresh = omega (arith, ap length cut) in
-        (omega (arith, ap length cut),
-         (ws ++ w ∷ [], length-push ws w ∙ ap (λ k. k + 1) count, ap (λ r. set r n w) (sofar .1 .2) ∙ ap (λ k. set (putInto fresh ws) k w) (sym count) ∙ put-push fresh ws w within, sofar .1 .3 ∙ ap (λ ps. afterThese ws (watchersIn zones (part ∷ ps))) cut ∙ ap (λ o. afterThese ws (followed o (watchersIn zones (next ∷ later)))) (sym named) ∙ after-push ws w (watchersIn zones (next ∷ later))))
+        let within : length ws < length fresh = omega (arith, ap length cut) in (
+          omega (arith, ap length cut),
+          (ws ++ w ∷ [], length-push ws w ∙ ap (λ k. k + 1) count, ap (λ r. set r n w) (sofar .1 .2) ∙ ap (λ k. set (putInto fresh ws) k w) (sym count) ∙ put-push fresh ws w within, sofar .1 .3 ∙ ap (λ ps. afterThese ws (watchersIn zones (part ∷ ps))) cut ∙ ap (λ o. afterThese ws (followed o (watchersIn zones (next ∷ later)))) (sym named) ∙ after-push ws w (watchersIn zones (next ∷ later))),
+        )
 
     pub put-fails : (part : List ℕ) (after : List (List ℕ)) → 0 < length after → None ≡ watcherOf zones part → Put row n (part ∷ after) → watchersIn zones parts ≡ None
     put-fails part [] some unlisted sofar = absurd (omega arith)

@@ -38,9 +38,10 @@ use Rattle.facts.proofs.Carrying.{sameWatchers-decides}
 -- where the same facts have the same spelling, equal texts are the same fact and no others
 module _ {F : Type 0} (reading : List ℕ → Result F NoFact) (same : F → F → Bool) (spelled : F → List ℕ) where
   pub same-by-text : ReadsBack reading spelled → ((f : F) → same f f ≡ true) → ((f g : F) → same f g ≡ true → spelled f ≡ spelled g) → SameByText reading same
-  same-by-text back itself spelling one other f g is also =
-      (λ e. sym (back one f is) ∙ spelling f g e ∙ back other g also,
-       λ e. let again : reading one ≡ reading other = ap reading e in let alike : f ≡ g = cc in ap (same f) (sym alike) ∙ itself f)
+  same-by-text back itself spelling one other f g is also = (
+    λ e. sym (back one f is) ∙ spelling f g e ∙ back other g also,
+    λ e. let again : reading one ≡ reading other = ap reading e in let alike : f ≡ g = cc in ap (same f) (sym alike) ∙ itself f,
+  )
 
 pub plain-back : (matters : List (List ℕ)) → ReadsBack (plainReading matters) (plainSpelled matters)
 plain-back matters text f is = by-form (isName text) (placeOf text matters) refl is

@@ -5,3 +5,4 @@ pub mod Plain
 pub mod Sight
 pub mod Texts
 pub mod Watchers
+pub mod Worked

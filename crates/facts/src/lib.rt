@@ -7,4 +7,6 @@ pub mod plain;
 pub mod sight;
 mod sight_text;
 pub mod sighted;
+#[cfg(test)]
+mod tests;
 mod watchers;

@@ -6,6 +6,7 @@ ghost use Rattle.facts.specs.Meaning.{ReadsBack, SameByText};
 ghost use Rattle.facts.specs.Plain.{plainReading, plainSame, plainSpelled};
 ghost use Rattle.facts.specs.Sight.{watchersOf, sightReading, sightSame, sightSpelled, Carries};
 ghost use Rattle.facts.specs.Watchers.{Idle};
+ghost use Rattle.facts.specs.Worked.{Worked};
 use crate::kinds::Kind;
 use crate::sight::SightKind;
 use crate::sighted::SightFact;
@@ -24,11 +25,19 @@ pub fn sight_is_always_true(fact: &SightFact) -> bool
     SightKind::always_true(fact)
 }
 
-// Under the same names a fact gives its text back, so two texts are the same fact exactly if they are equal.
-pub fn facts_are_told_by_text()
-    ensures plainback { λ _. ⌜ ((matters : List (List ℕ)) → ReadsBack (plainReading matters) (plainSpelled matters)) ⌝ }
-    ensures plainsame { λ _. ⌜ ((matters : List (List ℕ)) → SameByText (plainReading matters) plainSame) ⌝ }
-    ensures sightback { λ _. ⌜ ((zones matters : List (List ℕ)) → ReadsBack (sightReading zones matters) (sightSpelled zones matters)) ⌝ }
-    ensures sightsame { λ _. ⌜ ((zones matters : List (List ℕ)) → SameByText (sightReading zones matters) sightSame) ⌝ }
-{
-}
+// Under the same names a plain fact gives its text back, so two texts are the same fact exactly if they are equal.
+pub fn text_tells_plain_facts()
+    ensures back { λ _. ⌜ ((matters : List (List ℕ)) → ReadsBack (plainReading matters) (plainSpelled matters)) ⌝ }
+    ensures same { λ _. ⌜ ((matters : List (List ℕ)) → SameByText (plainReading matters) plainSame) ⌝ }
+{}
+
+// The same of sight facts.
+pub fn text_tells_sight_facts()
+    ensures back { λ _. ⌜ ((zones matters : List (List ℕ)) → ReadsBack (sightReading zones matters) (sightSpelled zones matters)) ⌝ }
+    ensures same { λ _. ⌜ ((zones matters : List (List ℕ)) → SameByText (sightReading zones matters) sightSame) ⌝ }
+{}
+
+// Lines worked by hand come out as they should.
+pub fn worked_lines_come_out()
+    ensures { λ _. ⌜ Worked ⌝ }
+{}

@@ -9,7 +9,7 @@ pub struct Names {
 }
 
 // Why a text is no fact: it has not the form of one, or it has and names a zone or matter that is not listed.
-#[derive(Clone, Copy, Debug)]
+#[derive(Clone, Copy, Debug, PartialEq, Eq)]
 pub enum NoFact {
     NotItsForm,
     NotListed,

@@ -105,7 +105,11 @@ pub fn read(names: &Names, text: &[u8]) -> Result<SightFact, NoFact>
         return Err(NoFact::NotListed);
     };
     match listed::find(&names.matters, last_part(text)) {
-        Some(matter) => Ok(SightFact { watchers, count, matter }),
+        Some(matter) => Ok(SightFact {
+            watchers,
+            count,
+            matter,
+        }),
         None => Err(NoFact::NotListed),
     }
 }

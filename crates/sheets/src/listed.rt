@@ -17,7 +17,9 @@ impl Name {
     pub fn new(heap: Global, text: &[u8]) -> Result<Name, AllocError>
         ensures { λ r. ⌜ made r (λ n. textOf n ≡ now (text .entry)) ⌝ }
     {
-        Ok(Name { text: text.to_vec(heap)? })
+        Ok(Name {
+            text: text.to_vec(heap)?,
+        })
     }
 
     pub fn text(&self) -> &[u8]
