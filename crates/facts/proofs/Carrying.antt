@@ -6,18 +6,17 @@ use mathlib.Core.Logic.{_⊎_, inl, inr, ⊎-elim}
 use Prim.Native.Nat.{ℕ, _+_, _-_, _<_, _≤_}
 use native.Mathlib.Omega.{arith}
 use lib.Dec.{eqb, ltb}
-use lib.ListN.{length, take, drop, getD, length-append, length-take}
+use lib.ListN.{length, take, drop, length-append, length-take}
 use Rattle.std.specs.Lexical.{Matches}
 use Rattle.std.specs.Orderings.{Decides}
 use Rattle.std.proofs.shelf.Equals.{matches-decides, ends-is}
-use Rattle.std.proofs.shelf.Lists.{take-rest}
-use Rattle.std.proofs.shelf.Tests.{false≢true, le-ltb, eqb-false, cases-bool, and-parts, and-from}
+use Rattle.std.proofs.shelf.Tests.{false≢true, le-ltb, cases-bool, and-parts, and-from}
 use Rattle.std.proofs.shelf.Ways.{same-from-decides, decides-eqb, decides-like, decides-and, decides-or}
 use Rattle.facts.specs.declared.sighted.SightFact.{SightFact}
 use Rattle.facts.specs.declared.sighted.Watcher.{Watcher}
 use Rattle.facts.specs.declared.sighted.Watcher.the-variants.{All, Zone}
 use Rattle.facts.specs.Sight.{watchersOf, sightCarries, Carries}
-use Rattle.facts.specs.Watchers.{sameWatcher, sameWatchers, above, carriesBy, CarriesBy}
+use Rattle.facts.specs.Watchers.{sameWatcher, sameWatchers, above, carriesJointly, CarriesJointly, carriesBy, CarriesBy}
 
 apart : {v w : Watcher} → (n : ℕ) → v ≡ All → w ≡ Zone n → v ≡ w → ⊥
 apart n p q e = let z : _≡_ {A = ℕ} 0 1 = cc in omega arith
@@ -59,23 +58,21 @@ above-decides r (w ∷ b) = decides-like _ more less (decides-or _ _ (sameWatche
     less : Above r (w ∷ b) → (b ≡ r) ⊎ Above r b
     less h = by-front (h .0) (h .1) (h .2)
 
--- the test decides carrying in words
-pub carriesBy-decides : (a b : List Watcher) → Decides (carriesBy a b) (CarriesBy a b)
-carriesBy-decides [] b =
-    decides-like _ inl (⊎-elim (λ (e : [] ≡ b). e) (λ (h : (r ws : List Watcher) × ([] ≡ All ∷ r) × (b ≡ ws ++ r) × (0 < length ws)). absurd (empty (h .2)))) (sameWatchers-decides [] b)
-carriesBy-decides (All ∷ r) b = decides-like _ out back (above-decides r b)
+carriesJointly-decides : (a b : List Watcher) → Decides (carriesJointly a b) (CarriesJointly a b)
+carriesJointly-decides [] b = (λ e. absurd (false≢true e), λ h. absurd (empty (h .2)))
+carriesJointly-decides (All ∷ r) b = decides-like _ out back (above-decides r b)
   where
-    out : Above r b → CarriesBy (All ∷ r) b
-    out h = inr (r, h .0, refl, h .1, h .2)
+    out : Above r b → CarriesJointly (All ∷ r) b
+    out h = (r, h .0, refl, h .1, h .2)
 
-    back : CarriesBy (All ∷ r) b → Above r b
-    back (inl e) = (All ∷ [], sym e, omega arith)
-    back (inr h) = let e = h .2 in let f = h .3 in let tail : h .0 ≡ r = cc in (h .1, f ∙ ap (λ l. h .1 ++ l) tail, h .4)
-carriesBy-decides (Zone z ∷ r) b = decides-like _ inl back (sameWatchers-decides (Zone z ∷ r) b)
-  where
-    back : CarriesBy (Zone z ∷ r) b → Zone z ∷ r ≡ b
-    back (inl e) = e
-    back (inr h) = let e = h .2 in let f : All ≡ Zone z = cc in absurd (apart z refl refl f)
+    back : CarriesJointly (All ∷ r) b → Above r b
+    back h = let e = h .2 in let f = h .3 in let tail : h .0 ≡ r = cc in (h .1, f ∙ ap (λ l. h .1 ++ l) tail, h .4)
+carriesJointly-decides (Zone z ∷ r) b =
+    (λ e. absurd (false≢true e), λ h. let e = h .2 in let f : All ≡ Zone z = cc in absurd (apart z refl refl f))
+
+-- the test decides carrying in words
+carriesBy-decides : (a b : List Watcher) → Decides (carriesBy a b) (CarriesBy a b)
+carriesBy-decides a b = decides-or _ _ (sameWatchers-decides a b) (carriesJointly-decides a b)
 
 carriesBy-trans : (a b c : List Watcher) → CarriesBy a b → CarriesBy b c → CarriesBy a c
 carriesBy-trans a b c (inl e) g = rw e g
@@ -118,8 +115,3 @@ module _ (s p : List Watcher) where
     where
       too-long : Above p s → ⊥
       too-long h = omega (arith, ap length (h .1), length-append (h .0) p, h .2)
-
--- what all zones jointly carry, by what stands after the first watcher
-pub carries-all : (a b : List Watcher) → eqb (length a) 0 ≡ false → getD a 0 All ≡ All → above (take (length a - 1) (drop 1 a)) b ≡ carriesBy a b
-carries-all [] b none first = absurd (eqb-false 0 0 none refl)
-carries-all (w ∷ r) b some first = rw (take-rest (w ∷ r) 1, first)

@@ -15,7 +15,7 @@ use Rattle.std.proofs.shelf.Ways.{tells}
 use Rattle.sheets.proofs.Places.{some-nth}
 use Rattle.facts.specs.declared.sighted.Watcher.{Watcher}
 use Rattle.facts.specs.Parts.{isWatcher, fitting, lastOf, watcherOf, followed, watchersIn}
-use Rattle.facts.specs.Sight.{putInto}
+use Rattle.facts.specs.Sight.{putInto, Placed}
 
 -- how much is left to cut
 abbrev pub uncut : Option (List ℕ) → ℕ
@@ -88,7 +88,7 @@ module _ (zones parts : List (List ℕ)) (fresh : List Watcher) where
     put-fails part [] some unlisted sofar = absurd (omega arith)
     put-fails part (next ∷ later) some unlisted sofar = sofar .1 .3 ∙ ap (λ o. afterThese (sofar .1 .0) (followed o (watchersIn zones (next ∷ later)))) (sym unlisted)
 
-    pub put-all : (part : List ℕ) → Put row n (part ∷ []) → (n ≤ 5) × ((ws : List Watcher) × (watchersIn zones parts ≡ Some ws) × (length ws ≡ n) × (row ≡ putInto fresh ws))
+    pub put-all : (part : List ℕ) → Put row n (part ∷ []) → Placed (watchersIn zones parts) fresh row n
     put-all part sofar =
         let few = sofar .0 in
         (omega arith, (sofar .1 .0, sofar .1 .3 ∙ ap Some (append-nil (sofar .1 .0)), sofar .1 .1, sofar .1 .2))

@@ -32,6 +32,10 @@ freshRow = replicate 5 All
 abbrev pub putInto : List Watcher → List Watcher → List Watcher
 putInto row ws = ws ++ drop (length ws) row
 
+-- n watchers, as they were read, stand in the first places of a row.
+abbrev pub Placed : Option (List Watcher) → List Watcher → List Watcher → ℕ → Type 0
+Placed read before after n = (n ≤ 5) × ((ws : List Watcher) × (read ≡ Some ws) × (length ws ≡ n) × (after ≡ putInto before ws))
+
 -- The fact with these watchers, of which there are at most five, and this matter.
 abbrev pub factOf : List Watcher → ℕ → SightFact
 factOf ws m = record { watchers = putInto freshRow ws; count = min (length ws) 5; matter = m; few = min-le-right (length ws) 5 }

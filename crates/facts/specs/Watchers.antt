@@ -28,19 +28,23 @@ abbrev pub above : List Watcher → List Watcher → Bool
 above r [] = false
 above r (w ∷ b) = sameWatchers b r || above r b
 
--- What a fact carries by its first watcher and the others, r: all zones jointly carry whatever watchers before r, a zone only itself.
-abbrev pub carriesFrom : Watcher → List Watcher → List Watcher → Bool
-carriesFrom All r b = above r b
-carriesFrom (Zone z) r b = sameWatchers (Zone z ∷ r) b
+-- a is `all` and then some r, and b is one or more watchers and then r.
+abbrev pub carriesJointly : List Watcher → List Watcher → Bool
+carriesJointly [] b = false
+carriesJointly (All ∷ r) b = above r b
+carriesJointly (Zone z ∷ r) b = false
 
--- Watchers of a fact that carries a fact of the same matter with the watchers b. A fact with no watcher carries only itself.
+-- A fact with the watchers a carries the fact of the same matter with the watchers b.
 abbrev pub carriesBy : List Watcher → List Watcher → Bool
-carriesBy [] b = sameWatchers [] b
-carriesBy (w ∷ r) b = carriesFrom w r b
+carriesBy a b = sameWatchers a b || carriesJointly a b
 
--- Carrying in words: the same watchers, or `all` and then r, against one or more watchers and then r.
+-- The first list is `all` and then r, and the second one or more watchers and then r, for some r.
+abbrev pub CarriesJointly : List Watcher → List Watcher → Type 0
+CarriesJointly a b = (r ws : List Watcher) × (a ≡ All ∷ r) × (b ≡ ws ++ r) × (0 < length ws)
+
+-- Carrying in words: the same watchers, or `all` and then what the other has one or more watchers before.
 abbrev pub CarriesBy : List Watcher → List Watcher → Type 0
-CarriesBy a b = (a ≡ b) ⊎ ((r ws : List Watcher) × (a ≡ All ∷ r) × (b ≡ ws ++ r) × (0 < length ws))
+CarriesBy a b = (a ≡ b) ⊎ CarriesJointly a b
 
 -- A watcher is the word for every zone.
 abbrev pub isEvery : Watcher → Bool
@@ -53,6 +57,6 @@ idle [] = false
 idle (v ∷ []) = false
 idle (v ∷ w ∷ ws) = (isEvery w || sameWatcher v w) || idle (w ∷ ws)
 
--- The same in words: a watcher that stands before itself, or any watcher with `all` somewhere after it.
+-- The same in words: somewhere a watcher v stands right before a watcher w that is `all`, or v again.
 abbrev pub Idle : List Watcher → Type 0
 Idle ws = (front back : List Watcher) × (v w : Watcher) × (ws ≡ front ++ v ∷ w ∷ back) × ((w ≡ All) ⊎ (v ≡ w))

@@ -16,21 +16,26 @@ pub trait Kind {
 
     const MOST_WATCHERS: usize;
 
+    // The word that names the kind in a sheet.
     ghost wording: { List ℕ };
 
+    // The fact that a text is under some names, or why it is none.
     ghost reading: { Names → List ℕ → Result Self·Fact NoFact };
 
+    // Two facts are the same.
     ghost alike: { Self·Fact → Self·Fact → Bool };
 
+    // The first fact carries the second.
     ghost carrying: { Self·Fact → Self·Fact → Bool };
 
+    // A fact is always true.
     ghost certain: { Self·Fact → Bool };
 
     law reflexive: { (a : Self·Fact) → carrying a a ≡ true };
 
     law transitive: { (a b c : Self·Fact) → carrying a b ≡ true → carrying b c ≡ true → carrying a c ≡ true };
 
-    // Whether a text is the word that names the kind in a sheet.
+    // Whether a text is the kind's word.
     fn is_word(text: &[u8]) -> bool
         ensures { λ r. ⌜ r ≡ sameBytes (now (text .entry)) wording ⌝ };
 

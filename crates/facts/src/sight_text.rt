@@ -1,16 +1,15 @@
 // How the text of a sight fact is read: its form first, then who and what it names.
-ghost use mathlib.Core.List.{List, map};
+ghost use mathlib.Core.List.{map};
 ghost use mathlib.Core.Path.{_≡_};
 ghost use Prim.Native.Nat.{_≤_};
 ghost use lib.Dec.{leb};
 ghost use lib.ListN.{length};
 ghost use Rattle.std.specs.Options.{Cases};
-ghost use Rattle.std.specs.declared.option.Option.the-variants.{None, Some};
+ghost use Rattle.std.specs.declared.option.Option.the-variants.{None};
 ghost use Rattle.sheets.specs.Listed.{textOf};
 ghost use Rattle.facts.specs.Parts.{partsOf, isWatcher, fitting, formed, watcherOf, watchersIn, lastOf};
-ghost use Rattle.facts.specs.Sight.{putInto, sightReading};
+ghost use Rattle.facts.specs.Sight.{Placed, sightReading};
 ghost use Rattle.facts.specs.Texts.{zonesOf, mattersOf};
-ghost use Rattle.facts.specs.declared.sighted.Watcher.{Watcher};
 use crate::names::Names;
 use crate::names::NoFact;
 use crate::sighted::MOST_WATCHERS;
@@ -70,7 +69,7 @@ fn listed_watcher(zones: &[Name], part: &[u8]) -> Option<Watcher>
 // Puts the watchers into the first places of a row and answers how many they are, unless a zone is not listed.
 fn put_watchers(zones: &[Name], text: &[u8], row: &mut [Watcher; MOST_WATCHERS]) -> Option<usize>
     requires { ⌜ length (partsOf (now text)) ≤ 6 ⌝ }
-    ensures { λ r. ⌜ Cases r (watchersIn (map textOf (now (zones .entry))) (partsOf (now (text .entry))) ≡ None) (λ n. (n ≤ 5) × ((ws : List Watcher) × (watchersIn (map textOf (now (zones .entry))) (partsOf (now (text .entry))) ≡ Some ws) × (length ws ≡ n) × (now (row .exit) ≡ putInto (now (row .entry)) ws))) ⌝ }
+    ensures { λ r. ⌜ Cases r (watchersIn (map textOf (now (zones .entry))) (partsOf (now (text .entry))) ≡ None) (Placed (watchersIn (map textOf (now (zones .entry))) (partsOf (now (text .entry)))) (now (row .entry)) (now (row .exit))) ⌝ }
 {
     let mut count = 0;
     let (mut part, mut rest) = pieces::cut(text, FULL_STOP);

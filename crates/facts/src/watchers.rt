@@ -1,7 +1,7 @@
 // Lists of watchers: when they are the same, what carries what, and when they say what is true anyway.
 ghost use mathlib.Core.Bool.{_||_};
 ghost use mathlib.Core.Path.{_≡_};
-ghost use Rattle.facts.specs.Watchers.{sameWatchers, sameWatcher, above, carriesBy, isEvery, idle};
+ghost use Rattle.facts.specs.Watchers.{sameWatchers, sameWatcher, above, carriesJointly, carriesBy, isEvery, idle};
 use crate::sighted::Watcher;
 use crate::sighted::WatcherPartialEq;
 
@@ -18,17 +18,21 @@ fn ends_above(watchers: &[Watcher], last: &[Watcher]) -> bool
     watchers.len() > last.len() && watchers.ends_with(last)
 }
 
+// Whether a is `all` and then what b has one or more watchers before.
+fn carries_jointly(a: &[Watcher], b: &[Watcher]) -> bool
+    ensures { λ r. ⌜ r ≡ carriesJointly (now (a .entry)) (now (b .entry)) ⌝ }
+{
+    match a.split_first() {
+        Some((Watcher::All, rest)) => ends_above(b, rest),
+        _ => false,
+    }
+}
+
 // Whether a fact with the watchers a carries the fact of the same matter with the watchers b.
 pub fn carries_by(a: &[Watcher], b: &[Watcher]) -> bool
     ensures { λ r. ⌜ r ≡ carriesBy (now (a .entry)) (now (b .entry)) ⌝ }
 {
-    if a.is_empty() {
-        return b.is_empty();
-    }
-    match a[0] {
-        Watcher::All => ends_above(b, &a[1..]),
-        Watcher::Zone(_) => same_watchers(a, b),
-    }
+    same_watchers(a, b) || carries_jointly(a, b)
 }
 
 // Whether a watcher after another adds nothing: it is `all`, or the same zone again.
