@@ -6,5 +6,7 @@ pub mod Places
 pub mod Rows
 pub mod Sheetwise
 pub mod Single
+pub mod Sought
 pub mod Splitting
 pub mod Table
+pub mod Words

@@ -4,6 +4,7 @@ pub mod Laws
 pub mod Layout
 pub mod Letters
 pub mod Lines
+pub mod Listed
 pub mod Names
 pub mod Pieces
 pub mod Refusals

@@ -6,6 +6,7 @@ pub mod laws;
 pub mod layout;
 pub mod letters;
 pub mod lines;
+pub mod listed;
 pub mod names;
 pub mod pieces;
 pub mod refusals;
