@@ -1,0 +1,33 @@
+-- What can be wrong with the fields of a line, and which of it is told. Assumes nothing.
+use mathlib.Core.Path.{_≡_}
+use mathlib.Core.Bool.{cond}
+use mathlib.Core.List.{List, [], _∷_}
+use mathlib.Core.Logic.{_⊎_}
+use Prim.Native.Nat.{ℕ, _+_}
+use lib.Dec.{leb}
+use Rattle.std.specs.declared.option.Option.{Option}
+use Rattle.std.specs.declared.option.Option.the-variants.{None, Some}
+use Rattle.sheets.specs.declared.refusals.Refusal.{Refusal}
+use Rattle.sheets.specs.declared.refusals.Refusal.the-variants as told
+use Rattle.sheets.specs.Refusals.{numberOf}
+use Rattle.depots.specs.declared.troubles.Trouble.{Trouble}
+use Rattle.depots.specs.declared.troubles.Trouble.the-variants.{NotItsForm, NotListed, Twice, AlwaysTrue}
+
+-- The refusal of a line for what is wrong with one of its fields.
+abbrev pub refusalOf : Option Trouble → ℕ → Option Refusal
+refusalOf None field = None
+refusalOf (Some NotItsForm) field = Some (told.NotItsForm field)
+refusalOf (Some NotListed) field = Some (told.NotListed field)
+refusalOf (Some Twice) field = Some (told.Twice field)
+refusalOf (Some AlwaysTrue) field = Some (told.AlwaysTrue field)
+
+-- Of two refusals the one with the lower number, and where the numbers are one, the first.
+abbrev pub lowerOf : Option Refusal → Option Refusal → Option Refusal
+lowerOf None second = second
+lowerOf (Some a) None = Some a
+lowerOf (Some a) (Some b) = cond (leb (numberOf a) (numberOf b)) (Some a) (Some b)
+
+-- What is wrong with a line whose fields, from one on, have these troubles.
+abbrev pub FieldFault : ℕ → List (Option Trouble) → Refusal → Type 0
+FieldFault field [] w = ⊥
+FieldFault field (t ∷ ts) w = (refusalOf t field ≡ Some w) ⊎ FieldFault (field + 1) ts w
