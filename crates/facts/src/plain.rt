@@ -1,6 +1,5 @@
 // The plain kind: a fact is a listed matter and carries only itself.
 ghost use lib.Chars.{codes};
-ghost use mathlib.Core.Bool.{Bool, true};
 ghost use Rattle.facts.specs.Plain.{plainReading, plainSame, plainCertain};
 ghost use Rattle.facts.specs.Texts.{mattersOf};
 use crate::kinds::Kind;
@@ -15,6 +14,7 @@ pub struct PlainFact {
     pub matter: usize,
 }
 
+// The kind whose facts are matters.
 pub struct Plain {}
 
 pub impl Kind for Plain as PlainKind {

@@ -21,6 +21,7 @@ impl SightFact {
     }
 }
 
+// The kind whose facts say who sees a matter.
 pub struct Sight {}
 
 pub impl Kind for Sight as SightKind {
