@@ -5,6 +5,7 @@ ghost use Rattle.facts.specs.Texts.{mattersOf};
 use crate::kinds::Kind;
 use crate::names::Names;
 use crate::names::NoFact;
+use sheets::bytes;
 use sheets::listed;
 use sheets::names;
 
@@ -33,7 +34,7 @@ pub impl Kind for Plain as PlainKind {
     ghost certain = { plainCertain };
 
     fn is_word(text: &[u8]) -> bool {
-        text == b"plain"
+        bytes::same(text, b"plain")
     }
 
     fn read(names: &Names, text: &[u8]) -> Result<PlainFact, NoFact> {
