@@ -12,7 +12,11 @@ struct Row {
 }
 
 fn told(sheet: &'static [u8], line: usize, number: u8) -> Row {
-    Row { sheet, line, number }
+    Row {
+        sheet,
+        line,
+        number,
+    }
 }
 
 fn verdict(sheet: &[u8]) -> (usize, u8) {
@@ -30,7 +34,11 @@ fn each_rule() -> Result<(), Fail> {
         told(b"K\tplain\nG\t()", 2, 2),
         told(b"\n", 1, 3),
         told(b"K\tplain\n\nG\t()\n", 2, 3),
-        told(b"K\tplain\nP\ta\nF\ta\nI\ta\nM\tm\ta\nE\ta\ta\t-\nM\tn\t()\nG\ta\n", 0, 0),
+        told(
+            b"K\tplain\nP\ta\nF\ta\nI\ta\nM\tm\ta\nE\ta\ta\t-\nM\tn\t()\nG\ta\n",
+            0,
+            0,
+        ),
         told(b"K\tsight\nZ\tz\nZ\ty\nP\ta\nG\t()\n", 0, 0),
         told(b"K\tplain\n", 1, 10),
         told(b"K\tplain\nP\ta\n", 2, 10),
@@ -84,7 +92,12 @@ fn push_matter(sheet: &mut Vec<u8>, letters: usize) -> Result<(), AllocError> {
 }
 
 // A sheet of 8 + lines * (letters + 3) + (last + 3) + 5 bytes whose letters and fields are right.
-fn long_sheet(heap: Global, lines: usize, letters: usize, last: usize) -> Result<Vec<u8>, AllocError> {
+fn long_sheet(
+    heap: Global,
+    lines: usize,
+    letters: usize,
+    last: usize,
+) -> Result<Vec<u8>, AllocError> {
     let mut sheet = Vec::new(heap);
     sheet.extend_from_slice(b"K\tplain\n")?;
     for _ in 0..lines {

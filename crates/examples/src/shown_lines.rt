@@ -6,6 +6,7 @@ use sheets::refusals::Refusal;
 use std::test::*;
 
 const DEPOT: &[u8] = b"one\n\nthree";
+
 const PLAN: &[u8] = b"uno\ndos\n";
 
 fn shows(fault: &Fault, text: &[u8]) -> bool {
@@ -16,7 +17,11 @@ fn shows(fault: &Fault, text: &[u8]) -> bool {
 }
 
 fn at(sheet: Option<Sheet>, line: usize) -> Fault {
-    Fault { sheet, line, refusal: Refusal::NoMemory }
+    Fault {
+        sheet,
+        line,
+        refusal: Refusal::NoMemory,
+    }
 }
 
 #[test]

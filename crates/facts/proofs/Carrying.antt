@@ -10,7 +10,7 @@ use lib.ListN.{length, take, drop, length-append, length-take}
 use Rattle.std.specs.Lexical.{Matches}
 use Rattle.std.specs.Orderings.{Decides}
 use Rattle.std.proofs.shelf.Equals.{matches-decides, ends-is}
-use Rattle.std.proofs.shelf.Tests.{false≢true, le-ltb, cases-bool, and-parts, and-from}
+use Rattle.std.proofs.shelf.Tests.{false≢true, le-ltb, cases-bool}
 use Rattle.std.proofs.shelf.Ways.{same-from-decides, decides-eqb, decides-like, decides-and, decides-or}
 use Rattle.facts.specs.declared.sighted.SightFact.{SightFact}
 use Rattle.facts.specs.declared.sighted.Watcher.{Watcher}

@@ -2,11 +2,10 @@
 use mathlib.Core.Path.{_≡_, refl, sym, ap, _∙_}
 use mathlib.Core.Bool.{Bool, true, false, cond}
 use mathlib.Core.List.{List, [], _∷_, _++_, map}
-use Prim.Native.Nat.{ℕ, min, _+_, _≤_, _<_}
+use Prim.Native.Nat.{ℕ, min, _+_, _<_}
 use native.Mathlib.Omega.{arith}
 use lib.Chars.{codes}
-use lib.Dec.{leb}
-use lib.ListN.{length, take, drop, getD, length-append, length-map}
+use lib.ListN.{length, drop, getD, length-append, length-map}
 use Rattle.std.specs.declared.option.Option.{Option}
 use Rattle.std.specs.declared.option.Option.the-variants.{None, Some}
 use Rattle.std.specs.declared.result.Result.{Result}
@@ -23,16 +22,14 @@ use Rattle.sheets.specs.Names.{isAll, isName}
 use Rattle.sheets.proofs.Cuts.{some-piece, rejoined-pieces}
 use Rattle.sheets.proofs.Sought.{placed}
 use Rattle.facts.specs.declared.names.NoFact.{NoFact}
-use Rattle.facts.specs.declared.names.NoFact.the-variants.{NotItsForm, NotListed}
-use Rattle.facts.specs.declared.plain.PlainFact.{PlainFact}
+use Rattle.facts.specs.declared.names.NoFact.the-variants.{NotItsForm}
 use Rattle.facts.specs.declared.sighted.SightFact.{SightFact}
 use Rattle.facts.specs.declared.sighted.Watcher.{Watcher}
 use Rattle.facts.specs.declared.sighted.Watcher.the-variants.{All, Zone}
 use Rattle.facts.specs.Meaning.{ReadsBack, SameByText}
 use Rattle.facts.specs.Parts.{partsOf, fitting, formed, watcherOf, followed, watchersIn, lastOf, partFor}
 use Rattle.facts.specs.Plain.{plainFact, plainReading, plainSame, plainSpelled}
-use Rattle.facts.specs.Sight.{watchersOf, freshRow, putInto, factOf, sightFact, sightReading, sightSame, sightSpelled}
-use Rattle.facts.specs.Watchers.{sameWatchers}
+use Rattle.facts.specs.Sight.{watchersOf, freshRow, factOf, sightFact, sightReading, sightSame, sightSpelled}
 use Rattle.facts.proofs.Carrying.{sameWatchers-decides}
 
 -- where the same facts have the same spelling, equal texts are the same fact and no others

@@ -14,6 +14,7 @@ use crate::names::NoFact;
 pub trait Kind {
     type Fact: Drop;
 
+    // The most watchers that a fact of the kind can have.
     const MOST_WATCHERS: usize;
 
     // The word that names the kind in a sheet.
@@ -31,8 +32,10 @@ pub trait Kind {
     // A fact is always true.
     ghost certain: { Self·Fact → Bool };
 
+    // A fact carries itself.
     law reflexive: { (a : Self·Fact) → carrying a a ≡ true };
 
+    // What is carried by what is carried is carried.
     law transitive: { (a b c : Self·Fact) → carrying a b ≡ true → carrying b c ≡ true → carrying a c ≡ true };
 
     // Whether a text is the kind's word.

@@ -10,8 +10,8 @@ use crate::names::NoFact;
 fn number_of_same<K: Kind>(facts: &[K::Fact], fact: &K::Fact) -> Option<usize>
     ensures { λ r. ⌜ r ≡ firstFrom (alike (now (fact .entry))) 1 (now (facts .entry)) ⌝ }
 {
-    for i in 0..facts.len() {
-        if K::same(fact, &facts[i]) {
+    for (i, listed) in facts.iter().enumerate() {
+        if K::same(fact, listed) {
             return Some(i + 1);
         }
     }

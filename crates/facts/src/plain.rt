@@ -1,11 +1,11 @@
 // The plain kind: a fact is a listed matter and carries only itself.
 ghost use lib.Chars.{codes};
-ghost use mathlib.Core.Bool.{Bool, true};
 ghost use Rattle.facts.specs.Plain.{plainReading, plainSame, plainCertain};
 ghost use Rattle.facts.specs.Texts.{mattersOf};
 use crate::kinds::Kind;
 use crate::names::Names;
 use crate::names::NoFact;
+use sheets::bytes;
 use sheets::listed;
 use sheets::names;
 
@@ -15,6 +15,7 @@ pub struct PlainFact {
     pub matter: usize,
 }
 
+// The kind whose facts are matters.
 pub struct Plain {}
 
 pub impl Kind for Plain as PlainKind {
@@ -33,7 +34,7 @@ pub impl Kind for Plain as PlainKind {
     ghost certain = { plainCertain };
 
     fn is_word(text: &[u8]) -> bool {
-        text == b"plain"
+        bytes::same(text, b"plain")
     }
 
     fn read(names: &Names, text: &[u8]) -> Result<PlainFact, NoFact> {

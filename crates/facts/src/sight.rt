@@ -11,6 +11,7 @@ use crate::sighted::MOST_WATCHERS;
 use crate::sighted::SightFact;
 use crate::sighted::Watcher;
 use crate::watchers;
+use sheets::bytes;
 
 impl SightFact {
     // The watchers, in their order.
@@ -21,6 +22,7 @@ impl SightFact {
     }
 }
 
+// The kind whose facts say who sees a matter.
 pub struct Sight {}
 
 pub impl Kind for Sight as SightKind {
@@ -39,7 +41,7 @@ pub impl Kind for Sight as SightKind {
     ghost certain = { sightCertain };
 
     fn is_word(text: &[u8]) -> bool {
-        text == b"sight"
+        bytes::same(text, b"sight")
     }
 
     fn read(names: &Names, text: &[u8]) -> Result<SightFact, NoFact> {

@@ -81,6 +81,6 @@ fn facts_are_numbered_and_marked(rt: LibcRuntime) -> Result<(), Fail> {
     let mut row = [true, true, false, true];
     listed::mark_carried::<Sight>(&facts, &all_clear, &mut row);
     check_eq(row, [false, true, true, true])?;
-    listed::mark_carriers::<Sight>(&facts, &scan_clear, &mut row);
-    check_eq(row, [false, true, true, true])
+    listed::mark_carriers::<Sight>(&facts, &clear, &mut row);
+    check_eq(row, [true, false, false, true])
 }

@@ -8,6 +8,7 @@ ghost use Rattle.std.specs.Of.Vec.{vec-items};
 ghost use Rattle.std.specs.Vec.{made};
 ghost use Rattle.reports.specs.Layout.{hasLetter, linesWith, counted, inventory, LayoutReport};
 ghost use Rattle.sheets.specs.Lines.{shown, linesOf};
+use crate::refused::refusal_report;
 use sheets::bytes;
 use sheets::layout::judge_layout;
 use sheets::lines::Line;
@@ -15,9 +16,10 @@ use sheets::lines::first_line;
 use sheets::pieces;
 use std::alloc::AllocError;
 use std::alloc::Global;
-use crate::refused::refusal_report;
 
-const NOTICE: &str = "Only the layout of the depot sheet is judged so far: names, facts, formulas and the plan are not.\n";
+const NOTICE: &str =
+    "Only the layout of the depot sheet is judged so far: names, facts, formulas and the plan are not.\n";
+
 const HEADING: &str = "The layout is right. Lines of each letter:\n";
 
 // Whether the first field of a line is a letter.
@@ -44,7 +46,12 @@ pub fn count_lines(sheet: &[u8], letter: u8) -> usize
 }
 
 // A letter and how many lines have it.
-fn push_count(report: &mut Vec<u8>, heap: Global, sheet: &[u8], letter: u8) -> Result<(), AllocError>
+fn push_count(
+    report: &mut Vec<u8>,
+    heap: Global,
+    sheet: &[u8],
+    letter: u8,
+) -> Result<(), AllocError>
     ensures { λ r. ⌜ made r (λ _. vec-items (now (report .exit)) ≡ vec-items (now (report .entry)) ++ counted (now (sheet .entry)) letter) ⌝ }
 {
     let count = count_lines(sheet, letter);

@@ -7,12 +7,12 @@ ghost use Rattle.std.specs.Options.{mapped};
 ghost use Rattle.std.specs.Vec.{made};
 ghost use Rattle.std.specs.declared.option.Option.the-variants.{Some};
 ghost use Rattle.reports.specs.Refused.{wordOf, placedAs, detailedAs, refusalLine, showsLine, lineFor, shownAs, refusalReport};
-use std::alloc::AllocError;
-use std::alloc::Global;
 use sheets::faults::Fault;
 use sheets::faults::Sheet;
 use sheets::faulty_line::line;
 use sheets::refusals::Refusal;
+use std::alloc::AllocError;
+use std::alloc::Global;
 
 fn word(sheet: Option<Sheet>) -> &'static str
     ensures { λ r. ⌜ now r ≡ wordOf sheet ⌝ }
@@ -53,14 +53,21 @@ fn refusal_line(heap: Global, fault: &Fault) -> Result<String, AllocError>
 fn shows_line(refusal: &Refusal) -> bool
     ensures { λ r. ⌜ r ≡ showsLine (now (refusal .entry)) ⌝ }
 {
-    !matches!(refusal, Refusal::OverLimit | Refusal::BadLine | Refusal::NoGoal | Refusal::GoalFalse)
+    !matches!(
+        refusal,
+        Refusal::OverLimit | Refusal::BadLine | Refusal::NoGoal | Refusal::GoalFalse
+    )
 }
 
 // The line that is shown with a refusal, where there is one.
 fn line_for<'a>(depot: &'a [u8], plan: &'a [u8], fault: &Fault) -> Option<&'a [u8]>
     ensures { λ r. ⌜ mapped (λ x. x .now) r ≡ lineFor (now (depot .entry)) (now (plan .entry)) (now (fault .entry)) ⌝ }
 {
-    if shows_line(&fault.refusal) { line(depot, plan, fault) } else { None }
+    if shows_line(&fault.refusal) {
+        line(depot, plan, fault)
+    } else {
+        None
+    }
 }
 
 fn push_line(report: &mut Vec<u8>, text: &[u8]) -> Result<(), AllocError>
@@ -73,7 +80,12 @@ fn push_line(report: &mut Vec<u8>, text: &[u8]) -> Result<(), AllocError>
 }
 
 // The report of a refusal: what is told of it and, where one is at fault, the line.
-pub fn refusal_report(heap: Global, depot: &[u8], plan: &[u8], fault: &Fault) -> Result<Vec<u8>, AllocError>
+pub fn refusal_report(
+    heap: Global,
+    depot: &[u8],
+    plan: &[u8],
+    fault: &Fault,
+) -> Result<Vec<u8>, AllocError>
     ensures { λ r. ⌜ made r (λ v. vec-items v ≡ refusalReport (now (depot .entry)) (now (plan .entry)) (now (fault .entry))) ⌝ }
 {
     let told = refusal_line(heap, fault)?;

@@ -13,7 +13,8 @@ const PLAN_LIMIT: usize = 16384;
 fn read_up_to(rt: &LibcRuntime, path: &str, limit: usize) -> io::Result<Vec<u8>> {
     let mut bytes = Vec::new(rt.alloc());
     let file = File::open(rt, path)?;
-    file.take((limit as u64).saturating_add(1)).read_to_end(&mut bytes)?;
+    file.take((limit as u64).saturating_add(1))
+        .read_to_end(&mut bytes)?;
     Ok(bytes)
 }
 

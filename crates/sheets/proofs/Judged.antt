@@ -33,8 +33,8 @@ permitted-is above sight None k is = absurd (let z : _≡_ {A = ℕ} 0 1 = cc in
 permitted-is above sight (Some l) k is =
     ⊎-elim
     (λ (may : mayCome above sight l ≡ true).
-        let same : l ≡ k = same-some l k (sym (cond-true _ _ _ may) ∙ is) in
-        (ap Some same, subst (MayCome above sight) same (table-agrees above sight l .0 may)))
+    let same : l ≡ k = same-some l k (sym (cond-true _ _ _ may) ∙ is) in
+    (ap Some same, subst (MayCome above sight) same (table-agrees above sight l .0 may)))
     (λ (not : mayCome above sight l ≡ false). absurd (nothing (sym (cond-false _ _ _ not) ∙ is)))
     (cases-bool (mayCome above sight l))
   where

@@ -9,4 +9,3 @@ pub mod Single
 pub mod Sought
 pub mod Splitting
 pub mod Table
-pub mod Words

@@ -35,9 +35,9 @@ clear-more Wrong ls n l is clear right k m below here w f =
     ⊎-elim
     (λ (under : k < n). clear k m under here w f)
     (λ (at : n ≤ k).
-        let same : k ≡ n = omega arith in
-        let line : m ≡ l = same-some m l (sym here ∙ ap (nth ls) same ∙ is) in
-        right w (subst (λ x. Wrong (take n ls) x w) line (subst (λ i. Wrong (take i ls) m w) same f)))
+    let same : k ≡ n = omega arith in
+    let line : m ≡ l = same-some m l (sym here ∙ ap (nth ls) same ∙ is) in
+    right w (subst (λ x. Wrong (take n ls) x w) line (subst (λ i. Wrong (take i ls) m w) same f)))
     (cases-lt k n)
 
 module _ (limit : ℕ) (Wrong : List Line → Line → Refusal → Type 0) (Lacking : List Line → Refusal → Type 0) (late : Late Wrong Lacking) (s : List ℕ) where
@@ -60,8 +60,8 @@ module _ (limit : ℕ) (Wrong : List Line → Line → Refusal → Type 0) (Lack
         by-line k m v is f =
             ⊎-elim
             (λ (same : n ≡ k).
-                let one : m ≡ l = same-some m l (sym is ∙ ap (nth (linesOf s)) (sym same) ∙ here) in
-                inr (ap (λ i. i + 1) same, low .first v (subst (λ x. Wrong (take n (linesOf s)) x v) one (subst (λ i. Wrong (take i (linesOf s)) m v) (sym same) f))))
+            let one : m ≡ l = same-some m l (sym is ∙ ap (nth (linesOf s)) (sym same) ∙ here) in
+            inr (ap (λ i. i + 1) same, low .first v (subst (λ x. Wrong (take n (linesOf s)) x v) one (subst (λ i. Wrong (take i (linesOf s)) m v) (sym same) f))))
             (λ x. ⊎-elim (λ (later : n < k). inl (omega arith)) (λ (before : k < n). absurd (clear k m before is v f)) x)
             (cases-order n k)
 

@@ -49,7 +49,7 @@ abbrev pub LayoutFault : Above → Line → Refusal → Type 0
 LayoutFault a l w =
     ((w ≡ BadLine) × (legible l ≡ false))
     ⊎ (((w ≡ BadLetter) × ((k : Letter) → letterOn l ≡ Some k → MayCome (a .letter) (a .sight) k → ⊥))
-       ⊎ ((w ≡ FieldCount) × ((k : Letter) × (letterOn l ≡ Some k) × (length (fields l) ≡ fieldsOf k → ⊥))))
+    ⊎ ((w ≡ FieldCount) × ((k : Letter) × (letterOn l ≡ Some k) × (length (fields l) ≡ fieldsOf k → ⊥))))
 
 -- The letter of the last of some lines.
 abbrev pub lastLetter : List Line → Option Letter

@@ -25,6 +25,10 @@ impl Fault {
         ensures line { λ r. ⌜ r .line ≡ line ⌝ }
         ensures refusal { λ r. ⌜ r .refusal ≡ refusal ⌝ }
     {
-        Fault { sheet: Some(sheet), line, refusal }
+        Fault {
+            sheet: Some(sheet),
+            line,
+            refusal,
+        }
     }
 }

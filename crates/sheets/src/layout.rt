@@ -23,6 +23,7 @@ use crate::refusals::Refusal;
 
 // The most bytes of a depot sheet, and of a line before its end.
 pub const DEPOT_LIMIT: usize = 32768;
+
 const LINE_LIMIT: usize = 240;
 
 const TAB: u8 = 9;
@@ -64,7 +65,10 @@ impl Above {
     fn nothing() -> Above
         ensures { λ r. ⌜ r ≡ aboveOf [] ⌝ }
     {
-        Above { letter: None, sight: false }
+        Above {
+            letter: None,
+            sight: false,
+        }
     }
 
     // Whether the line right above is the goal.
@@ -99,7 +103,10 @@ impl Above {
             return Err(Refusal::FieldCount);
         }
         let sight = self.sight | says_sight(line);
-        Ok(Above { letter: Some(letter), sight })
+        Ok(Above {
+            letter: Some(letter),
+            sight,
+        })
     }
 }
 

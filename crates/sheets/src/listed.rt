@@ -4,6 +4,7 @@ ghost use mathlib.Core.Path.{_≡_};
 ghost use Rattle.std.specs.Vec.{made};
 ghost use Rattle.std.specs.shelf.Text.{sameBytes};
 ghost use Rattle.sheets.specs.Listed.{textOf, placeOf};
+use crate::bytes;
 use std::alloc::AllocError;
 use std::alloc::Global;
 
@@ -31,7 +32,7 @@ impl Name {
     fn is(&self, text: &[u8]) -> bool
         ensures { λ r. ⌜ r ≡ sameBytes (textOf (now (self .entry))) (now (text .entry)) ⌝ }
     {
-        self.text() == text
+        bytes::same(self.text(), text)
     }
 }
 

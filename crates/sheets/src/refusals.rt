@@ -15,13 +15,21 @@ pub enum Refusal {
     // the line has another number of fields than its letter asks
     FieldCount,
     // the field has not its form
-    NotItsForm { field: usize },
+    NotItsForm {
+        field: usize,
+    },
     // the field names a zone, matter, fact or move that is not listed
-    NotListed { field: usize },
+    NotListed {
+        field: usize,
+    },
     // the field lists or starts something twice, or has something twice
-    Twice { field: usize },
+    Twice {
+        field: usize,
+    },
     // the field lists a fact that is always true
-    AlwaysTrue { field: usize },
+    AlwaysTrue {
+        field: usize,
+    },
     // the line takes a table, the formula sizes or the steps over their limit
     TableFull,
     // the sheet ends without its goal, or the depot is empty
@@ -29,15 +37,30 @@ pub enum Refusal {
     // the step has no move or more than eight
     StepSize,
     // the move number at the place is not listed
-    UnknownMove { place: usize },
+    UnknownMove {
+        place: usize,
+    },
     // the move at the place is there before it too
-    RepeatedMove { place: usize },
+    RepeatedMove {
+        place: usize,
+    },
     // the need of the move at the place is false
-    NeedFalse { place: usize },
+    NeedFalse {
+        place: usize,
+    },
     // one effect's setting carries a fact that the other strikes
-    Contradictory { setting_place: usize, setting_effect: usize, strike_place: usize, strike_effect: usize },
+    Contradictory {
+        setting_place: usize,
+        setting_effect: usize,
+        strike_place: usize,
+        strike_effect: usize,
+    },
     // the part of the move at the place reads otherwise after the moves of the set
-    Disturbed { set: usize, place: usize, part: usize },
+    Disturbed {
+        set: usize,
+        place: usize,
+        part: usize,
+    },
     // the goal is false after the last step
     GoalFalse,
     // the fact or formula number is not listed
@@ -89,9 +112,12 @@ impl Refusal {
             Refusal::UnknownMove { place } => [place, 0, 0, 0],
             Refusal::RepeatedMove { place } => [place, 0, 0, 0],
             Refusal::NeedFalse { place } => [place, 0, 0, 0],
-            Refusal::Contradictory { setting_place, setting_effect, strike_place, strike_effect } => {
-                [setting_place, setting_effect, strike_place, strike_effect]
-            }
+            Refusal::Contradictory {
+                setting_place,
+                setting_effect,
+                strike_place,
+                strike_effect,
+            } => { [setting_place, setting_effect, strike_place, strike_effect] }
             Refusal::Disturbed { set, place, part } => [set, place, part, 0],
             _ => [0, 0, 0, 0],
         }

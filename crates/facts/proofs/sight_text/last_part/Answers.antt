@@ -1,4 +1,4 @@
-use mathlib.Core.Path.{_≡_, sym, ap, _∙_}
+use mathlib.Core.Path.{sym, ap, _∙_}
 use Rattle.facts.specs.Parts.{lastOf}
 use Rattle.facts.proofs.Partwise.{uncut-less, last-more}
 use Rattle.facts.proofs.sight_text.last_part.Needs as need

@@ -1,4 +1,4 @@
-use mathlib.Core.Path.{_≡_, sym, ap, _∙_}
+use mathlib.Core.Path.{sym, ap, _∙_}
 use Rattle.sheets.proofs.Cuts.{some-piece}
 use Rattle.facts.specs.Parts.{fitting}
 use Rattle.facts.proofs.Partwise.{uncut-less, fitting-more, fitting-fails}

@@ -6,7 +6,7 @@ use Rattle.std.specs.declared.option.Option.the-variants.{Some}
 use Rattle.std.specs.shelf.Text.{sameBytes}
 use Rattle.sheets.specs.declared.listed.Name.{Name}
 use Rattle.sheets.specs.Listed.{textOf, firstFrom, placeOf}
-use Rattle.sheets.proofs.Sought.{sought-none, sought-here, sought-more, sought-all, firstFrom-map}
+use Rattle.sheets.proofs.Sought.{sought-here, sought-more, sought-all, firstFrom-map}
 use Rattle.sheets.proofs.listed.find.Needs as need
 
 by-text : (text : List ℕ) (names : List Name) → firstFrom (λ n. sameBytes (textOf n) text) 0 names ≡ placeOf text (map textOf names)
