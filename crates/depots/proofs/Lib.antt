@@ -1,0 +1,2 @@
+pub mod Fieldwise
+pub mod Numbers
