@@ -1,2 +1,3 @@
 pub mod Fieldwise
+pub mod Gathered
 pub mod Numbers

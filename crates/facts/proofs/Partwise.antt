@@ -26,16 +26,6 @@ pub uncut-less : {X : Type 0} (f : X → List ℕ) (rest next : Option X) (after
 uncut-less f rest None after is less = rw is (omega arith)
 uncut-less f rest (Some x) after is less = rw is (omega arith)
 
--- there is no part at n exactly if there are at most n
-pub few-parts : {X Y : Type 0} (f : X → Y) (o : Option X) (xs : List Y) (n : ℕ) (r : Bool) → mapped f o ≡ nth xs n → isSome o ≡ not r → r ≡ leb (length xs) n
-few-parts {X = X} f o xs n r at none =
-    let told = kept o ∙ ap isSome at ∙ some-nth xs n in
-    grind (arith, tells)
-  where
-    kept : (o : Option X) → isSome o ≡ isSome (mapped f o)
-    kept None = refl
-    kept (Some x) = refl
-
 -- the part in hand, the next one and those after it
 module _ (part next : List ℕ) (later after : List (List ℕ)) (cut : after ≡ next ∷ later) where
   pub last-more : lastOf (part ∷ after) ≡ lastOf (next ∷ later)

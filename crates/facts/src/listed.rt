@@ -7,7 +7,7 @@ use crate::names::Names;
 use crate::names::NoFact;
 
 // The number, counted from 1, of the first listed fact that is the same.
-fn number_of_same<K: Kind>(facts: &[K::Fact], fact: &K::Fact) -> Option<usize>
+pub fn number_of_same<K: Kind>(facts: &[K::Fact], fact: &K::Fact) -> Option<usize>
     ensures { λ r. ⌜ r ≡ firstFrom (alike (now (fact .entry))) 1 (now (facts .entry)) ⌝ }
 {
     for (i, listed) in facts.iter().enumerate() {

@@ -2,7 +2,6 @@
 ghost use mathlib.Core.List.{map};
 ghost use mathlib.Core.Path.{_≡_};
 ghost use Prim.Native.Nat.{_≤_};
-ghost use lib.Dec.{leb};
 ghost use lib.ListN.{length};
 ghost use Rattle.std.specs.Options.{Cases};
 ghost use Rattle.std.specs.declared.option.Option.the-variants.{None};
@@ -28,12 +27,6 @@ fn is_watcher(part: &[u8]) -> bool
     names::is_all(part) || names::is_name(part)
 }
 
-fn has_at_most(text: &[u8], parts: usize) -> bool
-    ensures { λ r. ⌜ r ≡ leb (length (partsOf (now (text .entry)))) parts ⌝ }
-{
-    pieces::piece(text, FULL_STOP, parts).is_none()
-}
-
 // Whether every part but the last is a watcher's and the last has the form of a name.
 fn parts_fit(text: &[u8]) -> bool
     ensures { λ r. ⌜ r ≡ fitting (partsOf (now (text .entry))) ⌝ }
@@ -51,7 +44,7 @@ fn parts_fit(text: &[u8]) -> bool
 fn has_form(text: &[u8]) -> bool
     ensures { λ r. ⌜ r ≡ formed (partsOf (now (text .entry))) ⌝ }
 {
-    has_at_most(text, MOST_WATCHERS + 1) && parts_fit(text)
+    pieces::has_at_most(text, FULL_STOP, MOST_WATCHERS + 1) && parts_fit(text)
 }
 
 fn listed_watcher(zones: &[Name], part: &[u8]) -> Option<Watcher>

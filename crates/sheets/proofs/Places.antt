@@ -5,7 +5,7 @@ use mathlib.Core.List.{List, [], _∷_, _++_}
 use mathlib.Core.Logic.{⊎-elim}
 use Prim.Native.Nat.{ℕ, zero, suc, _+_, _-_, _≤_, _<_}
 use native.Mathlib.Omega.{arith}
-use lib.Dec.{eqb, ltb}
+use lib.Dec.{eqb, leb, ltb}
 use lib.ListN.{length, take, drop, length-drop}
 use Rattle.std.specs.declared.option.Option.{Option}
 use Rattle.std.specs.declared.option.Option.the-variants.{None, Some}
@@ -59,6 +59,10 @@ module _ {X Y : Type 0} (f : X → Y) (xs : List Y) (n : ℕ) where
   uncounted before some was none =
       let past = told f before xs (n - 1) was in
       grind (arith, tells)
+
+-- there is no element at n exactly if there are at most n
+pub few : {X Y : Type 0} (f : X → Y) (o : Option X) (xs : List Y) (n : ℕ) (r : Bool) → mapped f o ≡ nth xs n → isSome o ≡ not r → r ≡ leb (length xs) n
+few f o xs n r at none = let past = told f o xs n at in grind (arith, tells)
 
 pub same-some : {X : Type 0} (x y : X) → Some x ≡ Some y → x ≡ y
 same-some x y e = cc

@@ -2,7 +2,7 @@
 ghost use mathlib.Core.List.{_∷_};
 ghost use mathlib.Core.Path.{_≡_};
 ghost use Prim.Native.Nat.{_<_};
-ghost use lib.Dec.{eqb};
+ghost use lib.Dec.{eqb, leb};
 ghost use lib.ListN.{length};
 ghost use Rattle.std.specs.Options.{Cases, mapped};
 ghost use Rattle.std.specs.shelf.Maps.{nth};
@@ -54,5 +54,12 @@ pub fn has_pieces(text: &[u8], mark: u8, n: usize) -> bool
     if piece(text, mark, n - 1).is_none() {
         return false;
     }
+    piece(text, mark, n).is_none()
+}
+
+// Whether a text has so many pieces at the most.
+pub fn has_at_most(text: &[u8], mark: u8, n: usize) -> bool
+    ensures { λ r. ⌜ r ≡ leb (length (pieces mark (now (text .entry)))) n ⌝ }
+{
     piece(text, mark, n).is_none()
 }
