@@ -10,15 +10,16 @@ use lib.ListN.{getD}
 use Rattle.std.specs.declared.option.Option.{Option}
 use Rattle.std.specs.declared.option.Option.the-variants.{None, Some}
 use Rattle.std.specs.Options.{Cases}
-use Rattle.std.proofs.shelf.Tests.{leb-true, leb-false, cases-lt, cond-both}
+use Rattle.std.proofs.shelf.Tests.{leb-true, leb-false, cases-lt, cond-both, both-ways}
 use Rattle.sheets.specs.declared.refusals.Refusal.{Refusal}
+use Rattle.sheets.specs.declared.refusals.Refusal.the-variants.{TableFull}
 use Rattle.sheets.specs.Faults.{NoLater, Lowest}
 use Rattle.sheets.specs.Refusals.{numberOf, rankOf}
 use Rattle.sheets.proofs.Judged.{no-later-itself}
 use Rattle.sheets.proofs.Places.{same-some}
 use Rattle.depots.specs.declared.troubles.Trouble.{Trouble}
 use Rattle.depots.specs.declared.troubles.Trouble.the-variants.{NotItsForm, NotListed, Twice, AlwaysTrue}
-use Rattle.depots.specs.Troubles.{refusalOf, lowerOf, FieldFault}
+use Rattle.depots.specs.Troubles.{refusalOf, lowerOf, FieldFault, LineFault, Faultless}
 
 -- the one that is told of what is wrong, if anything is
 abbrev pub Told : (Refusal → Type 0) → Option Refusal → Type 0
@@ -92,3 +93,41 @@ three-told second third fourth =
     unrivalled : (r : Option Refusal) → lowerOf r None ≡ r
     unrivalled None = refl
     unrivalled (Some w) = refl
+
+-- what is wrong with a field is told before a table that is full
+before-full : (field : ℕ) (ts : List (Option Trouble)) (w : Refusal) → FieldFault field ts w → numberOf w < 9
+before-full field [] w f = absurd f
+before-full field (t ∷ ts) w (inr f) = before-full (field + 1) ts w f
+before-full field (t ∷ ts) w (inl is) = by-trouble t is
+  where
+    by-trouble : (t : Option Trouble) → refusalOf t field ≡ Some w → numberOf w < 9
+    by-trouble None is = absurd (nothing is)
+    by-trouble (Some NotItsForm) is = subst (λ u. numberOf u < 9) (same-some _ _ is) (omega arith)
+    by-trouble (Some NotListed) is = subst (λ u. numberOf u < 9) (same-some _ _ is) (omega arith)
+    by-trouble (Some Twice) is = subst (λ u. numberOf u < 9) (same-some _ _ is) (omega arith)
+    by-trouble (Some AlwaysTrue) is = subst (λ u. numberOf u < 9) (same-some _ _ is) (omega arith)
+
+module _ (ts : List (Option Trouble)) (full : Bool) where
+  pub field-first : (w : Refusal) → Lowest (FieldFault 2 ts) w → Lowest (LineFault ts full) w
+  field-first w low = record { holds = inl (low .holds); first = by-fault }
+    where
+      by-fault : (v : Refusal) → LineFault ts full v → NoLater (rankOf w) (rankOf v)
+      by-fault v (inl f) = low .first v f
+      by-fault v (inr f) = subst (λ u. NoLater (rankOf w) (rankOf u)) (sym (f .0)) (inl (before-full 2 ts w (low .holds)))
+
+  module _ (fine : (w : Refusal) → FieldFault 2 ts w → ⊥) where
+    pub table-full : full ≡ true → Lowest (LineFault ts full) TableFull
+    table-full over = record { holds = inr (refl, over); first = by-fault }
+      where
+        by-fault : (v : Refusal) → LineFault ts full v → NoLater (rankOf TableFull) (rankOf v)
+        by-fault v (inl f) = absurd (fine v f)
+        by-fault v (inr f) = subst (λ u. NoLater (rankOf TableFull) (rankOf u)) (sym (f .0)) (no-later-itself (rankOf TableFull))
+
+    pub nothing-wrong : full ≡ false → Faultless ts full
+    nothing-wrong free w (inl f) = fine w f
+    nothing-wrong free w (inr f) = both-ways full free (f .1)
+
+-- a line of one field, with nothing wrong by what the calls answered
+pub faultless-at : (t u : Option Trouble) (n m most : ℕ) → t ≡ u → n ≡ m → Faultless (t ∷ None ∷ None ∷ []) (leb most n) → Faultless (u ∷ None ∷ None ∷ []) (leb most m)
+faultless-at t u n m most same-trouble same-length fine =
+    subst (λ x. Faultless (x ∷ None ∷ None ∷ []) (leb most m)) same-trouble (subst (λ x. Faultless (t ∷ None ∷ None ∷ []) (leb most x)) same-length fine)

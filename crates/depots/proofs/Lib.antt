@@ -1,3 +1,4 @@
 pub mod Fieldwise
 pub mod Gathered
+pub mod Grown
 pub mod Numbers

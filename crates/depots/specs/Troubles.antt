@@ -1,6 +1,6 @@
 -- What can be wrong with the fields of a line, and which of it is told. Assumes nothing.
 use mathlib.Core.Path.{_≡_}
-use mathlib.Core.Bool.{cond}
+use mathlib.Core.Bool.{Bool, true, cond}
 use mathlib.Core.List.{List, [], _∷_}
 use mathlib.Core.Logic.{_⊎_}
 use Prim.Native.Nat.{ℕ, _+_}
@@ -31,3 +31,12 @@ lowerOf (Some a) (Some b) = cond (leb (numberOf a) (numberOf b)) (Some a) (Some 
 abbrev pub FieldFault : ℕ → List (Option Trouble) → Refusal → Type 0
 FieldFault field [] w = ⊥
 FieldFault field (t ∷ ts) w = (refusalOf t field ≡ Some w) ⊎ FieldFault (field + 1) ts w
+
+-- What is wrong with a line whose fields from the second on have these troubles, and which takes a table over its limit
+-- or not.
+abbrev pub LineFault : List (Option Trouble) → Bool → Refusal → Type 0
+LineFault ts full w = FieldFault 2 ts w ⊎ ((w ≡ told.TableFull) × (full ≡ true))
+
+-- Nothing is wrong with such a line.
+abbrev pub Faultless : List (Option Trouble) → Bool → Type 0
+Faultless ts full = (w : Refusal) → LineFault ts full w → ⊥

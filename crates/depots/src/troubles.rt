@@ -2,7 +2,8 @@
 ghost use mathlib.Core.List.{[], _∷_};
 ghost use mathlib.Core.Path.{_≡_};
 ghost use Rattle.std.specs.Options.{Cases};
-ghost use Rattle.depots.specs.Troubles.{refusalOf, lowerOf, FieldFault};
+ghost use Rattle.std.specs.Results as results;
+ghost use Rattle.depots.specs.Troubles.{refusalOf, lowerOf, FieldFault, LineFault, Faultless};
 ghost use Rattle.sheets.specs.Faults.{Lowest};
 ghost use Rattle.sheets.specs.declared.refusals.Refusal.{Refusal as Told};
 use sheets::refusals::Refusal;
@@ -55,4 +56,17 @@ pub fn lowest(second: Option<Trouble>, third: Option<Trouble>, fourth: Option<Tr
     ensures { λ r. ⌜ Cases r ((w : Told) → FieldFault 2 (second ∷ third ∷ fourth ∷ []) w → ⊥) (λ w. Lowest (FieldFault 2 (second ∷ third ∷ fourth ∷ [])) w) ⌝ }
 {
     lower(refusal(second, 2), lower(refusal(third, 3), refusal(fourth, 4)))
+}
+
+// What is told of a line for the troubles with its fields and, after them, for a table that it takes over its limit.
+pub fn judged(second: Option<Trouble>, third: Option<Trouble>, fourth: Option<Trouble>, full: bool) -> Result<(), Refusal>
+    ensures { λ r. ⌜ results.Cases r (λ _. Faultless (second ∷ third ∷ fourth ∷ []) full) (λ w. Lowest (LineFault (second ∷ third ∷ fourth ∷ []) full) w) ⌝ }
+{
+    if let Some(refusal) = lowest(second, third, fourth) {
+        return Err(refusal);
+    }
+    if full {
+        return Err(Refusal::TableFull);
+    }
+    Ok(())
 }

@@ -1,0 +1,28 @@
+// What a line adds to the tables of a depot: names, facts and started facts. A refusal leaves them as they were.
+ghost use mathlib.Core.List.{[], _∷_, _++_, map};
+ghost use mathlib.Core.Path.{_≡_};
+ghost use lib.Dec.{leb};
+ghost use Rattle.std.specs.Of.Vec.{vec-items, vec-len};
+ghost use Rattle.std.specs.declared.option.Option.the-variants.{None};
+ghost use Rattle.depots.specs.Entries.{Taken};
+ghost use Rattle.depots.specs.Fields.{newName};
+ghost use Rattle.sheets.specs.Listed.{textOf};
+use crate::fields::new_name;
+use crate::troubles::judged;
+use sheets::listed::Name;
+use sheets::refusals::Refusal;
+use std::alloc::Global;
+
+// Lists a new name, of which there may be so many at the most.
+pub fn list_name(heap: Global, names: &mut Vec<Name>, most: usize, text: &[u8]) -> Result<(), Refusal>
+    ensures { λ r. ⌜ Taken (newName (map textOf (vec-items (now (names .entry)))) (now (text .entry)) ∷ None ∷ None ∷ []) (leb most (vec-len (now (names .entry)))) (map textOf (vec-items (now (names .exit))) ≡ map textOf (vec-items (now (names .entry))) ++ now (text .entry) ∷ []) (vec-items (now (names .exit)) ≡ vec-items (now (names .entry))) r ⌝ }
+{
+    judged(new_name(names, text), None, None, names.len() >= most)?;
+    let Ok(name) = Name::new(heap, text) else {
+        return Err(Refusal::NoMemory);
+    };
+    if names.push(name).is_err() {
+        return Err(Refusal::NoMemory);
+    }
+    Ok(())
+}
