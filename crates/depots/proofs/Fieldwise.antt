@@ -131,3 +131,13 @@ module _ (ts : List (Option Trouble)) (full : Bool) where
 pub faultless-at : (t u : Option Trouble) (n m most : ℕ) → t ≡ u → n ≡ m → Faultless (t ∷ None ∷ None ∷ []) (leb most n) → Faultless (u ∷ None ∷ None ∷ []) (leb most m)
 faultless-at t u n m most same-trouble same-length fine =
     subst (λ x. Faultless (x ∷ None ∷ None ∷ []) (leb most m)) same-trouble (subst (λ x. Faultless (t ∷ None ∷ None ∷ []) (leb most x)) same-length fine)
+
+-- one field in trouble
+pub only-told : (t : Trouble) (w : Refusal) → refusalOf (Some t) 2 ≡ Some w → (full : Bool) → Lowest (LineFault (Some t ∷ None ∷ None ∷ []) full) w
+only-told t w is full = field-first (Some t ∷ None ∷ None ∷ []) full w (record { holds = inl is; first = by-fault })
+  where
+    by-fault : (v : Refusal) → FieldFault 2 (Some t ∷ None ∷ None ∷ []) v → NoLater (rankOf w) (rankOf v)
+    by-fault v (inl same) = subst (λ u. NoLater (rankOf w) (rankOf u)) (sym (same-some v w (sym same ∙ is))) (no-later-itself (rankOf w))
+    by-fault v (inr (inl e)) = absurd (nothing e)
+    by-fault v (inr (inr (inl e))) = absurd (nothing e)
+    by-fault v (inr (inr (inr e))) = absurd e

@@ -7,6 +7,8 @@ use Prim.Native.Nat.{ℕ, _+_}
 use lib.Dec.{leb}
 use Rattle.std.specs.declared.option.Option.{Option}
 use Rattle.std.specs.declared.option.Option.the-variants.{None, Some}
+use Rattle.std.specs.declared.result.Result.{Result}
+use Rattle.std.specs.declared.result.Result.the-variants.{Ok, Err}
 use Rattle.sheets.specs.declared.refusals.Refusal.{Refusal}
 use Rattle.sheets.specs.declared.refusals.Refusal.the-variants as told
 use Rattle.sheets.specs.Refusals.{numberOf}
@@ -31,6 +33,11 @@ lowerOf (Some a) (Some b) = cond (leb (numberOf a) (numberOf b)) (Some a) (Some 
 abbrev pub FieldFault : ℕ → List (Option Trouble) → Refusal → Type 0
 FieldFault field [] w = ⊥
 FieldFault field (t ∷ ts) w = (refusalOf t field ≡ Some w) ⊎ FieldFault (field + 1) ts w
+
+-- The trouble with what was read of a field, if there is one.
+abbrev pub troubleIn : {X : Type 0} → Result X Trouble → Option Trouble
+troubleIn (Ok x) = None
+troubleIn (Err t) = Some t
 
 -- What is wrong with a line whose fields from the second on have these troubles, and which takes a table over its limit
 -- or not.

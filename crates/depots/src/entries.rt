@@ -1,20 +1,33 @@
 // What a line adds to the tables of a depot: names, facts and started facts. A refusal leaves them as they were.
 ghost use mathlib.Core.List.{[], _∷_, _++_, map};
 ghost use mathlib.Core.Path.{_≡_};
+ghost use mathlib.Core.Bool.{false};
+ghost use Prim.Native.Nat.{ℕ};
 ghost use lib.Dec.{leb};
 ghost use Rattle.std.specs.Of.Vec.{vec-items, vec-len};
 ghost use Rattle.std.specs.declared.option.Option.the-variants.{None};
+ghost use Rattle.std.specs.declared.result.Result.the-variants.{Ok};
 ghost use Rattle.depots.specs.Entries.{Taken};
-ghost use Rattle.depots.specs.Fields.{newName};
+ghost use Rattle.depots.specs.Fields.{newName, numberIn, newStart};
+ghost use Rattle.depots.specs.Troubles.{troubleIn};
 ghost use Rattle.sheets.specs.Listed.{textOf};
 use crate::fields::new_name;
+use crate::fields::new_start;
 use crate::troubles::judged;
+use crate::troubles::only;
+use facts::kinds::Kind;
+use facts::names::Names;
 use sheets::listed::Name;
 use sheets::refusals::Refusal;
 use std::alloc::Global;
 
 // Lists a new name, of which there may be so many at the most.
-pub fn list_name(heap: Global, names: &mut Vec<Name>, most: usize, text: &[u8]) -> Result<(), Refusal>
+pub fn list_name(
+    heap: Global,
+    names: &mut Vec<Name>,
+    most: usize,
+    text: &[u8],
+) -> Result<(), Refusal>
     ensures { λ r. ⌜ Taken (newName (map textOf (vec-items (now (names .entry)))) (now (text .entry)) ∷ None ∷ None ∷ []) (leb most (vec-len (now (names .entry)))) (map textOf (vec-items (now (names .exit))) ≡ map textOf (vec-items (now (names .entry))) ++ now (text .entry) ∷ []) (vec-items (now (names .exit)) ≡ vec-items (now (names .entry))) r ⌝ }
 {
     judged(new_name(names, text), None, None, names.len() >= most)?;
@@ -25,4 +38,24 @@ pub fn list_name(heap: Global, names: &mut Vec<Name>, most: usize, text: &[u8]) 
         return Err(Refusal::NoMemory);
     }
     Ok(())
+}
+
+// Starts a listed fact.
+pub fn start_fact<K: Kind>(
+    names: &Names,
+    facts: &[K::Fact],
+    started: &mut Vec<usize>,
+    text: &[u8],
+) -> Result<(), Refusal>
+    ensures { λ r. ⌜ Taken (troubleIn (newStart (numberIn alike (reading (now (names .entry))) (now (facts .entry)) (now (text .entry))) (vec-items (now (started .entry)))) ∷ None ∷ None ∷ []) false ((n : ℕ) × (newStart (numberIn alike (reading (now (names .entry))) (now (facts .entry)) (now (text .entry))) (vec-items (now (started .entry))) ≡ Ok n) × (vec-items (now (started .exit)) ≡ vec-items (now (started .entry)) ++ n ∷ [])) (vec-items (now (started .exit)) ≡ vec-items (now (started .entry))) r ⌝ }
+{
+    match new_start::<K>(names, facts, started, text) {
+        Err(trouble) => Err(only(trouble)),
+        Ok(number) => {
+            if started.push(number).is_err() {
+                return Err(Refusal::NoMemory);
+            }
+            Ok(())
+        }
+    }
 }

@@ -35,7 +35,7 @@ fn trouble(why: NoFact) -> Trouble
     }
 }
 
-pub fn is_among(number: usize, numbers: &[usize]) -> bool
+pub(crate) fn is_among(number: usize, numbers: &[usize]) -> bool
     ensures { λ r. ⌜ r ≡ among number (now (numbers .entry)) ⌝ }
 {
     for n in numbers {
@@ -65,7 +65,12 @@ pub fn new_fact<K: Kind>(names: &Names, facts: &[K::Fact], text: &[u8]) -> Resul
 }
 
 // The listed fact that a field starts.
-pub fn new_start<K: Kind>(names: &Names, facts: &[K::Fact], started: &[usize], text: &[u8]) -> Result<usize, Trouble>
+pub fn new_start<K: Kind>(
+    names: &Names,
+    facts: &[K::Fact],
+    started: &[usize],
+    text: &[u8],
+) -> Result<usize, Trouble>
     ensures { λ r. ⌜ r ≡ newStart (numberIn alike (reading (now (names .entry))) (now (facts .entry)) (now (text .entry))) (now (started .entry)) ⌝ }
 {
     match number_of::<K>(names, facts, text) {

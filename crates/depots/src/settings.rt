@@ -25,7 +25,10 @@ impl FactList {
         ensures numbers { λ r. ⌜ numbersOf r ≡ [] ⌝ }
         ensures count { λ r. ⌜ r .count ≡ 0 ⌝ }
     {
-        FactList { numbers: [0; MOST], count: 0 }
+        FactList {
+            numbers: [0; MOST],
+            count: 0,
+        }
     }
 
     // The numbers, in their order.
@@ -78,11 +81,19 @@ fn gather<K: Kind>(names: &Names, facts: &[K::Fact], text: &[u8]) -> Result<Fact
         }
         rest = after;
     }
-    if unlisted { Err(Trouble::NotListed) } else { Ok(list) }
+    if unlisted {
+        Err(Trouble::NotListed)
+    } else {
+        Ok(list)
+    }
 }
 
 // The facts that a field of settings or strikes lists.
-pub fn fact_list<K: Kind>(names: &Names, facts: &[K::Fact], text: &[u8]) -> Result<FactList, Trouble>
+pub fn fact_list<K: Kind>(
+    names: &Names,
+    facts: &[K::Fact],
+    text: &[u8],
+) -> Result<FactList, Trouble>
     ensures { λ r. ⌜ Comes (listReading (numberIn alike (reading (now (names .entry))) (now (facts .entry))) (now (text .entry))) r ⌝ }
 {
     if bytes::same(text, b"-") {

@@ -1,7 +1,9 @@
 // What can be wrong with the fields of a line, and which of it is told.
+ghost use mathlib.Core.Bool.{Bool};
 ghost use mathlib.Core.List.{[], _∷_};
 ghost use mathlib.Core.Path.{_≡_};
 ghost use Rattle.std.specs.Options.{Cases};
+ghost use Rattle.std.specs.declared.option.Option.the-variants.{None, Some};
 ghost use Rattle.std.specs.Results as results;
 ghost use Rattle.depots.specs.Troubles.{refusalOf, lowerOf, FieldFault, LineFault, Faultless};
 ghost use Rattle.sheets.specs.Faults.{Lowest};
@@ -34,6 +36,18 @@ fn refusal(trouble: Option<Trouble>, field: usize) -> Option<Refusal>
     }
 }
 
+// The refusal of a line whose second field alone is in trouble; it is told whether a table is full or not.
+pub fn only(trouble: Trouble) -> Refusal
+    ensures { λ r. ⌜ ((full : Bool) → Lowest (LineFault (Some trouble ∷ None ∷ None ∷ []) full) r) ⌝ }
+{
+    match trouble {
+        Trouble::NotItsForm => Refusal::NotItsForm { field: 2 },
+        Trouble::NotListed => Refusal::NotListed { field: 2 },
+        Trouble::Twice => Refusal::Twice { field: 2 },
+        Trouble::AlwaysTrue => Refusal::AlwaysTrue { field: 2 },
+    }
+}
+
 // Of two refusals for fields in their order, the one with the lower number.
 fn lower(first: Option<Refusal>, second: Option<Refusal>) -> Option<Refusal>
     ensures { λ r. ⌜ r ≡ lowerOf first second ⌝ }
@@ -52,14 +66,26 @@ fn lower(first: Option<Refusal>, second: Option<Refusal>) -> Option<Refusal>
 }
 
 // The refusal that is told of a line for what is wrong with its second, third and fourth field.
-pub fn lowest(second: Option<Trouble>, third: Option<Trouble>, fourth: Option<Trouble>) -> Option<Refusal>
+pub fn lowest(
+    second: Option<Trouble>,
+    third: Option<Trouble>,
+    fourth: Option<Trouble>,
+) -> Option<Refusal>
     ensures { λ r. ⌜ Cases r ((w : Told) → FieldFault 2 (second ∷ third ∷ fourth ∷ []) w → ⊥) (λ w. Lowest (FieldFault 2 (second ∷ third ∷ fourth ∷ [])) w) ⌝ }
 {
-    lower(refusal(second, 2), lower(refusal(third, 3), refusal(fourth, 4)))
+    lower(
+        refusal(second, 2),
+        lower(refusal(third, 3), refusal(fourth, 4)),
+    )
 }
 
 // What is told of a line for the troubles with its fields and, after them, for a table that it takes over its limit.
-pub fn judged(second: Option<Trouble>, third: Option<Trouble>, fourth: Option<Trouble>, full: bool) -> Result<(), Refusal>
+pub fn judged(
+    second: Option<Trouble>,
+    third: Option<Trouble>,
+    fourth: Option<Trouble>,
+    full: bool,
+) -> Result<(), Refusal>
     ensures { λ r. ⌜ results.Cases r (λ _. Faultless (second ∷ third ∷ fourth ∷ []) full) (λ w. Lowest (LineFault (second ∷ third ∷ fourth ∷ []) full) w) ⌝ }
 {
     if let Some(refusal) = lowest(second, third, fourth) {

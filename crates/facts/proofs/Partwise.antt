@@ -1,18 +1,14 @@
 -- A walk over the parts of a text, one cut after the other. Assumes nothing.
 use mathlib.Core.Path.{_≡_, refl, sym, ap, _∙_}
-use mathlib.Core.Bool.{Bool, true, false, not, _&&_}
+use mathlib.Core.Bool.{Bool, true, false, _&&_}
 use mathlib.Core.List.{List, [], _∷_, _++_, append-assoc}
 use Prim.Native.Nat.{ℕ, suc, _+_, _<_, _≤_}
 use native.Mathlib.Omega.{arith}
-use lib.Dec.{leb}
 use lib.ListN.{length, drop, set}
 use Rattle.std.specs.declared.option.Option.{Option}
 use Rattle.std.specs.declared.option.Option.the-variants.{None, Some}
-use Rattle.std.specs.Options.{Cases, isSome, mapped}
-use Rattle.std.specs.shelf.Maps.{nth}
+use Rattle.std.specs.Options.{Cases, mapped}
 use Rattle.std.proofs.shelf.Lists.{append-nil, drop-more, set-at, length-push}
-use Rattle.std.proofs.shelf.Ways.{tells}
-use Rattle.sheets.proofs.Places.{some-nth}
 use Rattle.facts.specs.declared.sighted.Watcher.{Watcher}
 use Rattle.facts.specs.Parts.{isWatcher, fitting, lastOf, watcherOf, followed, watchersIn}
 use Rattle.facts.specs.Sight.{putInto, Placed}

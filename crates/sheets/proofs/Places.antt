@@ -47,22 +47,17 @@ told : {X Y : Type 0} (f : X → Y) (o : Option X) (xs : List Y) (i : ℕ) → m
 told f None xs i e = ap isSome e ∙ some-nth xs i
 told f (Some x) xs i e = ap isSome e ∙ some-nth xs i
 
--- a list has n elements where there is one at n - 1 and none at n, as answers about those places tell
-module _ {X Y : Type 0} (f : X → Y) (xs : List Y) (n : ℕ) where
-  pub counted : (before at : Option X) (r : Bool) → 0 < n → mapped f before ≡ nth xs (n - 1) → isSome before ≡ true → mapped f at ≡ nth xs n → isSome at ≡ not r → r ≡ eqb (length xs) n
-  counted before at r some was is-some here is-none =
-      let below = told f before xs (n - 1) was in
-      let past = told f at xs n here in
-      grind (arith, tells)
-
-  pub uncounted : (before : Option X) → 0 < n → mapped f before ≡ nth xs (n - 1) → isSome before ≡ false → false ≡ eqb (length xs) n
-  uncounted before some was none =
-      let past = told f before xs (n - 1) was in
-      grind (arith, tells)
-
 -- there is no element at n exactly if there are at most n
 pub few : {X Y : Type 0} (f : X → Y) (o : Option X) (xs : List Y) (n : ℕ) (r : Bool) → mapped f o ≡ nth xs n → isSome o ≡ not r → r ≡ leb (length xs) n
 few f o xs n r at none = let past = told f o xs n at in grind (arith, tells)
+
+-- a list has n elements where there is one at n - 1 and it has at most n
+module _ {X Y : Type 0} (f : X → Y) (xs : List Y) (n : ℕ) (before : Option X) (some : 0 < n) (was : mapped f before ≡ nth xs (n - 1)) where
+  pub counted : (r : Bool) → isSome before ≡ true → r ≡ leb (length xs) n → r ≡ eqb (length xs) n
+  counted r is-some at-most = let below = told f before xs (n - 1) was in grind (arith, tells)
+
+  pub uncounted : isSome before ≡ false → false ≡ eqb (length xs) n
+  uncounted none = let past = told f before xs (n - 1) was in grind (arith, tells)
 
 pub same-some : {X : Type 0} (x y : X) → Some x ≡ Some y → x ≡ y
 same-some x y e = cc

@@ -44,6 +44,13 @@ pub fn piece(text: &[u8], mark: u8, index: usize) -> Option<&[u8]>
     Some(first)
 }
 
+// Whether a text has so many pieces at the most.
+pub fn has_at_most(text: &[u8], mark: u8, n: usize) -> bool
+    ensures { λ r. ⌜ r ≡ leb (length (pieces mark (now (text .entry)))) n ⌝ }
+{
+    piece(text, mark, n).is_none()
+}
+
 // Whether a text has just so many pieces.
 pub fn has_pieces(text: &[u8], mark: u8, n: usize) -> bool
     ensures { λ r. ⌜ r ≡ eqb (length (pieces mark (now (text .entry)))) n ⌝ }
@@ -54,12 +61,5 @@ pub fn has_pieces(text: &[u8], mark: u8, n: usize) -> bool
     if piece(text, mark, n - 1).is_none() {
         return false;
     }
-    piece(text, mark, n).is_none()
-}
-
-// Whether a text has so many pieces at the most.
-pub fn has_at_most(text: &[u8], mark: u8, n: usize) -> bool
-    ensures { λ r. ⌜ r ≡ leb (length (pieces mark (now (text .entry)))) n ⌝ }
-{
-    piece(text, mark, n).is_none()
+    has_at_most(text, mark, n)
 }

@@ -14,4 +14,4 @@ returns-then-is-none c =
 
 pub returns : need.returns
 returns c =
-    counted (λ x. x .now) (pieces (c .args .mark) (c .args .text .now)) (c .args .n) (c .piece .result) (c .piece-2 .result) (c .is-none-2 .result) (omega arith) (c .piece .ensures) (c .if-is-none .ensures tt) (c .piece-2 .ensures) (c .is-none-2 .ensures)
+    counted (λ x. x .now) (pieces (c .args .mark) (c .args .text .now)) (c .args .n) (c .piece .result) (omega arith) (c .piece .ensures) (c .has-at-most .result) (c .if-is-none .ensures tt) (c .has-at-most .ensures)
