@@ -5,6 +5,7 @@ ghost use mathlib.Core.Bool.{false};
 ghost use Prim.Native.Nat.{ℕ};
 ghost use lib.Dec.{leb};
 ghost use Rattle.std.specs.Of.Vec.{vec-items, vec-len};
+ghost use Rattle.std.specs.Orderings.{When};
 ghost use Rattle.std.specs.declared.option.Option.the-variants.{None};
 ghost use Rattle.std.specs.declared.result.Result.the-variants.{Ok};
 ghost use Rattle.depots.specs.Entries.{Taken};
@@ -31,13 +32,20 @@ pub fn list_name(
     ensures { λ r. ⌜ Taken (newName (map textOf (vec-items (now (names .entry)))) (now (text .entry)) ∷ None ∷ None ∷ []) (leb most (vec-len (now (names .entry)))) (map textOf (vec-items (now (names .exit))) ≡ map textOf (vec-items (now (names .entry))) ++ now (text .entry) ∷ []) (vec-items (now (names .exit)) ≡ vec-items (now (names .entry))) r ⌝ }
 {
     judged(new_name(names, text), None, None, names.len() >= most)?;
-    let Ok(name) = Name::new(heap, text) else {
-        return Err(Refusal::NoMemory);
-    };
-    if names.push(name).is_err() {
+    if !push_text(heap, names, text) {
         return Err(Refusal::NoMemory);
     }
     Ok(())
+}
+
+// Puts a text at the end of a list of them, or leaves the list as it was.
+fn push_text(heap: Global, texts: &mut Vec<Name>, text: &[u8]) -> bool
+    ensures { λ r. ⌜ When r (map textOf (vec-items (now (texts .exit))) ≡ map textOf (vec-items (now (texts .entry))) ++ now (text .entry) ∷ []) (vec-items (now (texts .exit)) ≡ vec-items (now (texts .entry))) ⌝ }
+{
+    let Ok(name) = Name::new(heap, text) else {
+        return false;
+    };
+    texts.push(name).is_ok()
 }
 
 // Starts a listed fact.
