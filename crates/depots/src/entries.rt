@@ -9,9 +9,10 @@ ghost use Rattle.std.specs.Orderings.{When};
 ghost use Rattle.std.specs.declared.option.Option.the-variants.{None};
 ghost use Rattle.std.specs.declared.result.Result.the-variants.{Ok};
 ghost use Rattle.depots.specs.Entries.{Taken};
-ghost use Rattle.depots.specs.Fields.{newName, numberIn, newStart};
+ghost use Rattle.depots.specs.Fields.{newName, newFact, numberIn, newStart};
 ghost use Rattle.depots.specs.Troubles.{troubleIn};
 ghost use Rattle.sheets.specs.Listed.{textOf};
+use crate::fields::new_fact;
 use crate::fields::new_name;
 use crate::fields::new_start;
 use crate::troubles::judged;
@@ -46,6 +47,35 @@ fn push_text(heap: Global, texts: &mut Vec<Name>, text: &[u8]) -> bool
         return false;
     };
     texts.push(name).is_ok()
+}
+
+// The most facts that a sheet lists.
+pub const MOST_FACTS: usize = 128;
+
+// Lists a new fact, with its text beside it.
+pub fn list_fact<K: Kind>(
+    heap: Global,
+    names: &Names,
+    facts: &mut Vec<K::Fact>,
+    texts: &mut Vec<Name>,
+    text: &[u8],
+) -> Result<(), Refusal>
+    ensures { λ r. ⌜ Taken (troubleIn (newFact alike certain (reading (now (names .entry)) (now (text .entry))) (vec-items (now (facts .entry)))) ∷ None ∷ None ∷ []) (leb 128 (vec-len (now (facts .entry)))) ((f : K·Fact) × (newFact alike certain (reading (now (names .entry)) (now (text .entry))) (vec-items (now (facts .entry))) ≡ Ok f) × (vec-items (now (facts .exit)) ≡ vec-items (now (facts .entry)) ++ f ∷ []) × (map textOf (vec-items (now (texts .exit))) ≡ map textOf (vec-items (now (texts .entry))) ++ now (text .entry) ∷ [])) ((vec-items (now (facts .exit)) ≡ vec-items (now (facts .entry))) × (vec-items (now (texts .exit)) ≡ vec-items (now (texts .entry)))) r ⌝ }
+{
+    match new_fact::<K>(names, facts, text) {
+        Err(trouble) => Err(only(trouble)),
+        Ok(fact) => {
+            judged(None, None, None, facts.len() >= MOST_FACTS)?;
+            if facts.push(fact).is_err() {
+                return Err(Refusal::NoMemory);
+            }
+            if !push_text(heap, texts, text) {
+                let _ = facts.pop();
+                return Err(Refusal::NoMemory);
+            }
+            Ok(())
+        }
+    }
 }
 
 // Starts a listed fact.
