@@ -1,1 +1,5 @@
 pub mod Formulas
+pub mod Marks
+pub mod Reading
+pub mod Shapes
+pub mod Spelling
