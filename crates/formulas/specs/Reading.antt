@@ -14,17 +14,17 @@ use Rattle.formulas.specs.Formulas.{Formula, Formulas, fact, neg, all, none, m
 use Rattle.formulas.specs.Shapes.{texted, textedAll}
 use Rattle.formulas.specs.Spelling.{isMark, WellTexted, FactText, EachFactIn, spelled, spelledOn, depthOf, depthIn}
 
--- A text is a formula's: it spells the formula, which is at most eight deep.
-pub record IsText (text : List ℕ) (p : Formula (List ℕ)) : Type 0 where
+-- A text is a formula's, which is at most so deep: it is how the formula is written.
+pub record Spells (depth : ℕ) (text : List ℕ) (p : Formula (List ℕ)) : Type 0 where
   pub text-is : spelled p ≡ text
   pub facts : WellTexted p
-  pub depth : depthOf p ≤ 8
+  pub shallow : depthOf p ≤ depth
 
 -- An answer to the question which formula a text is. Want of memory says nothing of the text.
-abbrev pub Answers : List ℕ → Result (Tree (RefT (List ℕ))) Unread → Type 0
-Answers text (Ok t) = IsText text (texted t)
-Answers text (Err NotItsForm) = (p : Formula (List ℕ)) → IsText text p → ⊥
-Answers text (Err NoMemory) = Unit {0}
+abbrev pub Answers : ℕ → List ℕ → Result (Tree (RefT (List ℕ))) Unread → Type 0
+Answers depth text (Ok t) = Spells depth text (texted t)
+Answers depth text (Err NotItsForm) = (p : Formula (List ℕ)) → Spells depth text p → ⊥
+Answers depth text (Err NoMemory) = Unit {0}
 
 -- A text ends, or goes on with a mark.
 abbrev pub Ends : List ℕ → Type 0

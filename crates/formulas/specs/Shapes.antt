@@ -34,3 +34,11 @@ textedAll ts = shapes ts (λ l. l .now)
 -- Trees in a row are one and then the others.
 abbrev pub Joined : {L : Type 0} → Tree L → Trees L → Trees L → Type 0
 Joined {L} one others ts = (b : Box (Tree L) Global) × (c : Box (Trees L) Global) × (ts ≡ Cons b c) × (box-value b ≡ one) × (box-value c ≡ others)
+
+-- The formula of a tree whose leaves are fact numbers.
+abbrev pub numbers : Tree ℕ → Formula ℕ
+numbers t = shape t (λ n. n)
+
+-- The formulas of such trees.
+abbrev pub numbersAll : Trees ℕ → Formulas ℕ
+numbersAll ts = shapes ts (λ n. n)

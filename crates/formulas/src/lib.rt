@@ -1,5 +1,10 @@
 // Formulas: needs, conditions and the goal.
+mod build;
+pub mod laws;
 mod marks;
 mod reader;
 pub mod reading;
+pub mod resolve;
+pub mod size;
 pub mod tree;
+pub mod truth;

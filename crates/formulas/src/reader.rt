@@ -1,35 +1,15 @@
 // The reader of formulas and that of bracket lists, which call each other as deep as they may.
-ghost use mathlib.Core.Path.{_≡_};
-ghost use Rattle.std.specs.Results.{Cases};
-ghost use Rattle.std.specs.Of.Box.{box-value};
-ghost use Rattle.formulas.specs.declared.tree.Unread.the-variants.{NoMemory};
 ghost use Rattle.formulas.specs.Reading.{Formed, FormedOn};
-ghost use Rattle.formulas.specs.Shapes.{Joined};
+use crate::build::boxed;
+use crate::build::joined;
 use crate::marks;
 use crate::marks::Joint;
 use crate::marks::Opening;
 use crate::tree::Formula;
 use crate::tree::Formulas;
 use crate::tree::Unread;
+use crate::tree::UnreadFromAllocError;
 use std::alloc::Global;
-
-fn boxed<T: Drop>(heap: Global, value: T) -> Result<Box<T>, Unread>
-    ensures { λ r. ⌜ Cases r (λ b. box-value b ≡ value) (λ e. e ≡ NoMemory) ⌝ }
-{
-    match Box::new(heap, value) {
-        Ok(b) => Ok(b),
-        Err(_) => Err(Unread::NoMemory),
-    }
-}
-
-// A formula before others.
-fn joined<L: Drop>(heap: Global, one: Formula<L>, others: Formulas<L>) -> Result<Formulas<L>, Unread>
-    ensures { λ r. ⌜ Cases r (Joined one others) (λ e. e ≡ NoMemory) ⌝ }
-{
-    let one = boxed(heap, one)?;
-    let others = boxed(heap, others)?;
-    Ok(Formulas::Cons(one, others))
-}
 
 // The fact that a text begins with.
 fn fact<'a>(text: &'a [u8]) -> Result<(Formula<&'a [u8]>, &'a [u8]), Unread>
