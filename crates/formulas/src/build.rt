@@ -18,7 +18,11 @@ pub fn boxed<T: Drop>(heap: Global, value: T) -> Result<Box<T>, AllocError>
 }
 
 // A formula before others.
-pub fn joined<L: Drop>(heap: Global, one: Formula<L>, others: Formulas<L>) -> Result<Formulas<L>, AllocError>
+pub fn joined<L: Drop>(
+    heap: Global,
+    one: Formula<L>,
+    others: Formulas<L>,
+) -> Result<Formulas<L>, AllocError>
     ensures { λ r. ⌜ made r (Joined one others) ⌝ }
 {
     let one = boxed(heap, one)?;

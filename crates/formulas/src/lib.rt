@@ -6,5 +6,7 @@ mod reader;
 pub mod reading;
 pub mod resolve;
 pub mod size;
+#[cfg(test)]
+mod tests;
 pub mod tree;
 pub mod truth;

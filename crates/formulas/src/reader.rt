@@ -23,7 +23,11 @@ fn fact<'a>(text: &'a [u8]) -> Result<(Formula<&'a [u8]>, &'a [u8]), Unread>
 }
 
 // The formula that a text begins with, if it is at most so deep, and what follows it.
-pub fn formula<'a>(heap: Global, text: &'a [u8], depth: usize) -> Result<(Formula<&'a [u8]>, &'a [u8]), Unread>
+pub fn formula<'a>(
+    heap: Global,
+    text: &'a [u8],
+    depth: usize,
+) -> Result<(Formula<&'a [u8]>, &'a [u8]), Unread>
     ensures { λ r. ⌜ Formed depth (now (text .entry)) r ⌝ }
 {
     if depth == 0 {
@@ -44,7 +48,11 @@ pub fn formula<'a>(heap: Global, text: &'a [u8], depth: usize) -> Result<(Formul
 }
 
 // The formulas up to the bracket that closes, one at least, and what follows it.
-fn brackets<'a>(heap: Global, text: &'a [u8], depth: usize) -> Result<(Formulas<&'a [u8]>, &'a [u8]), Unread>
+fn brackets<'a>(
+    heap: Global,
+    text: &'a [u8],
+    depth: usize,
+) -> Result<(Formulas<&'a [u8]>, &'a [u8]), Unread>
     ensures { λ r. ⌜ FormedOn depth (now (text .entry)) r ⌝ }
 {
     let (one, after) = formula(heap, text, depth)?;

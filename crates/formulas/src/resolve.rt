@@ -41,6 +41,7 @@ fn has_form<K: Kind>(names: &Names, facts: &[K::Fact], text: &[u8]) -> bool
     }
 }
 
+// Whether every fact of a formula has the form of one.
 fn all_formed<K: Kind>(names: &Names, facts: &[K::Fact], formula: &Formula<&[u8]>) -> bool
     ensures { λ r. ⌜ r ≡ eachPasses (λ text. hasForm (numberOf alike (reading (now (names .entry))) (now (facts .entry)) text)) (texted (now (formula .entry))) ⌝ }
 {
@@ -51,6 +52,7 @@ fn all_formed<K: Kind>(names: &Names, facts: &[K::Fact], formula: &Formula<&[u8]
     }
 }
 
+// The same of formulas in a row.
 fn all_formed_in<K: Kind>(names: &Names, facts: &[K::Fact], formulas: &Formulas<&[u8]>) -> bool
     ensures { λ r. ⌜ r ≡ eachPassesIn (λ text. hasForm (numberOf alike (reading (now (names .entry))) (now (facts .entry)) text)) (textedAll (now (formulas .entry))) ⌝ }
 {
@@ -63,7 +65,11 @@ fn all_formed_in<K: Kind>(names: &Names, facts: &[K::Fact], formulas: &Formulas<
 }
 
 // The leaf for a text that is a listed fact.
-fn numbered_fact<K: Kind>(names: &Names, facts: &[K::Fact], text: &[u8]) -> Result<Formula<usize>, Unresolved>
+fn numbered_fact<K: Kind>(
+    names: &Names,
+    facts: &[K::Fact],
+    text: &[u8],
+) -> Result<Formula<usize>, Unresolved>
     ensures { λ r. ⌜ Numbers (numberOf alike (reading (now (names .entry))) (now (facts .entry))) (fact (now (text .entry))) r ⌝ }
 {
     match listed::number_of::<K>(names, facts, text) {
@@ -74,7 +80,12 @@ fn numbered_fact<K: Kind>(names: &Names, facts: &[K::Fact], text: &[u8]) -> Resu
 }
 
 // A formula with the number of each fact, or a fault of some fact.
-fn number_facts<K: Kind>(heap: Global, names: &Names, facts: &[K::Fact], formula: &Formula<&[u8]>) -> Result<Formula<usize>, Unresolved>
+fn number_facts<K: Kind>(
+    heap: Global,
+    names: &Names,
+    facts: &[K::Fact],
+    formula: &Formula<&[u8]>,
+) -> Result<Formula<usize>, Unresolved>
     ensures { λ r. ⌜ Numbers (numberOf alike (reading (now (names .entry))) (now (facts .entry))) (texted (now (formula .entry))) r ⌝ }
 {
     match formula {
@@ -90,7 +101,13 @@ fn number_facts<K: Kind>(heap: Global, names: &Names, facts: &[K::Fact], formula
     }
 }
 
-fn number_facts_in<K: Kind>(heap: Global, names: &Names, facts: &[K::Fact], formulas: &Formulas<&[u8]>) -> Result<Formulas<usize>, Unresolved>
+// The same of formulas in a row.
+fn number_facts_in<K: Kind>(
+    heap: Global,
+    names: &Names,
+    facts: &[K::Fact],
+    formulas: &Formulas<&[u8]>,
+) -> Result<Formulas<usize>, Unresolved>
     ensures { λ r. ⌜ NumbersIn (numberOf alike (reading (now (names .entry))) (now (facts .entry))) (textedAll (now (formulas .entry))) r ⌝ }
 {
     match formulas {
@@ -104,7 +121,12 @@ fn number_facts_in<K: Kind>(heap: Global, names: &Names, facts: &[K::Fact], form
 }
 
 // The formula over fact numbers that a formula over texts is. The form of every fact is judged before any is looked up.
-pub fn resolve<K: Kind>(heap: Global, names: &Names, facts: &[K::Fact], formula: &Formula<&[u8]>) -> Result<Formula<usize>, Unresolved>
+pub fn resolve<K: Kind>(
+    heap: Global,
+    names: &Names,
+    facts: &[K::Fact],
+    formula: &Formula<&[u8]>,
+) -> Result<Formula<usize>, Unresolved>
     ensures { λ r. ⌜ Resolves (numberOf alike (reading (now (names .entry))) (now (facts .entry))) (texted (now (formula .entry))) r ⌝ }
 {
     if !all_formed::<K>(names, facts, formula) {

@@ -17,6 +17,7 @@ pub fn size(formula: &Formula<&[u8]>) -> usize
     }
 }
 
+// The same of formulas in a row, together.
 fn size_in(formulas: &Formulas<&[u8]>) -> usize
     ensures { λ r. ⌜ r ≡ min (sizeIn (textedAll (now (formulas .entry)))) (2 ^ 64 - 1) ⌝ }
 {

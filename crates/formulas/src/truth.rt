@@ -6,7 +6,7 @@ ghost use Rattle.formulas.specs.Truth.{standsIn};
 use crate::tree::Formula;
 use crate::tree::Formulas;
 
-// Whether the fact of a number, counted from 1, stands.
+// Whether the fact of a number, counted from 1, stands. One that has no mark does not.
 fn stands(standing: &[bool], number: usize) -> bool
     ensures { λ r. ⌜ r ≡ standsIn (now (standing .entry)) number ⌝ }
 {
@@ -16,6 +16,7 @@ fn stands(standing: &[bool], number: usize) -> bool
     standing[number - 1]
 }
 
+// Whether a formula over fact numbers is true, where the marks say which facts stand: a mark at index f - 1 is that of fact f.
 pub fn truth(formula: &Formula<usize>, standing: &[bool]) -> bool
     ensures { λ r. ⌜ r ≡ holds (standsIn (now (standing .entry))) (numbers (now (formula .entry))) ⌝ }
 {
@@ -26,6 +27,7 @@ pub fn truth(formula: &Formula<usize>, standing: &[bool]) -> bool
     }
 }
 
+// Whether every formula in a row is true.
 fn all_true(formulas: &Formulas<usize>, standing: &[bool]) -> bool
     ensures { λ r. ⌜ r ≡ allHold (standsIn (now (standing .entry))) (numbersAll (now (formulas .entry))) ⌝ }
 {
