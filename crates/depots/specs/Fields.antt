@@ -14,7 +14,6 @@ use Rattle.std.specs.shelf.Text.{sameBytes}
 use Rattle.sheets.specs.Listed.{placeOf, firstFrom}
 use Rattle.sheets.specs.Names.{isName}
 use Rattle.sheets.specs.Pieces.{pieces}
-use Rattle.facts.specs.Listed.{numbered}
 use Rattle.facts.specs.declared.names.NoFact.{NoFact}
 use Rattle.facts.specs.declared.names.NoFact.the-variants as none
 use Rattle.depots.specs.declared.troubles.Trouble.{Trouble}
@@ -28,10 +27,6 @@ newName listed text = cond (isName text) (cond (isSome (placeOf text listed)) (S
 abbrev pub asTrouble : NoFact → Trouble
 asTrouble none.NotItsForm = NotItsForm
 asTrouble none.NotListed = NotListed
-
--- Which listed fact a text is, by its number.
-abbrev pub numberIn : {F : Type 0} → (F → F → Bool) → (List ℕ → Result F NoFact) → List F → List ℕ → Result ℕ NoFact
-numberIn same read facts text = numbered same (read text) facts
 
 -- A field that lists a new fact: what was read, unless it is listed already or always true.
 abbrev pub newFact : {F : Type 0} → (F → F → Bool) → (F → Bool) → Result F NoFact → List F → Result F Trouble

@@ -9,8 +9,9 @@ ghost use Rattle.std.specs.Orderings.{When};
 ghost use Rattle.std.specs.declared.option.Option.the-variants.{None};
 ghost use Rattle.std.specs.declared.result.Result.the-variants.{Ok};
 ghost use Rattle.depots.specs.Entries.{Taken};
-ghost use Rattle.depots.specs.Fields.{newName, newFact, numberIn, newStart};
+ghost use Rattle.depots.specs.Fields.{newName, newFact, newStart};
 ghost use Rattle.depots.specs.Troubles.{troubleIn};
+ghost use Rattle.facts.specs.Listed.{numberOfText};
 ghost use Rattle.sheets.specs.Listed.{textOf};
 use crate::fields::new_fact;
 use crate::fields::new_name;
@@ -85,7 +86,7 @@ pub fn start_fact<K: Kind>(
     started: &mut Vec<usize>,
     text: &[u8],
 ) -> Result<(), Refusal>
-    ensures { λ r. ⌜ Taken (troubleIn (newStart (numberIn alike (reading (now (names .entry))) (now (facts .entry)) (now (text .entry))) (vec-items (now (started .entry)))) ∷ None ∷ None ∷ []) false ((n : ℕ) × (newStart (numberIn alike (reading (now (names .entry))) (now (facts .entry)) (now (text .entry))) (vec-items (now (started .entry))) ≡ Ok n) × (vec-items (now (started .exit)) ≡ vec-items (now (started .entry)) ++ n ∷ [])) (vec-items (now (started .exit)) ≡ vec-items (now (started .entry))) r ⌝ }
+    ensures { λ r. ⌜ Taken (troubleIn (newStart (numberOfText alike (reading (now (names .entry))) (now (facts .entry)) (now (text .entry))) (vec-items (now (started .entry)))) ∷ None ∷ None ∷ []) false ((n : ℕ) × (newStart (numberOfText alike (reading (now (names .entry))) (now (facts .entry)) (now (text .entry))) (vec-items (now (started .entry))) ≡ Ok n) × (vec-items (now (started .exit)) ≡ vec-items (now (started .entry)) ++ n ∷ [])) (vec-items (now (started .exit)) ≡ vec-items (now (started .entry))) r ⌝ }
 {
     match new_start::<K>(names, facts, started, text) {
         Err(trouble) => Err(only(trouble)),

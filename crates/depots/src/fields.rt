@@ -1,7 +1,8 @@
 // The fields of a line, read under what the lines above list.
 ghost use mathlib.Core.List.{map};
 ghost use mathlib.Core.Path.{_≡_};
-ghost use Rattle.depots.specs.Fields.{newName, asTrouble, numberIn, newFact, among, newStart};
+ghost use Rattle.depots.specs.Fields.{newName, asTrouble, newFact, among, newStart};
+ghost use Rattle.facts.specs.Listed.{numberOfText};
 ghost use Rattle.sheets.specs.Listed.{textOf};
 use crate::troubles::Trouble;
 use facts::kinds::Kind;
@@ -71,7 +72,7 @@ pub fn new_start<K: Kind>(
     started: &[usize],
     text: &[u8],
 ) -> Result<usize, Trouble>
-    ensures { λ r. ⌜ r ≡ newStart (numberIn alike (reading (now (names .entry))) (now (facts .entry)) (now (text .entry))) (now (started .entry)) ⌝ }
+    ensures { λ r. ⌜ r ≡ newStart (numberOfText alike (reading (now (names .entry))) (now (facts .entry)) (now (text .entry))) (now (started .entry)) ⌝ }
 {
     match number_of::<K>(names, facts, text) {
         Err(why) => Err(trouble(why)),

@@ -20,6 +20,10 @@ abbrev pub numbered : {F : Type 0} → (F → F → Bool) → Result F NoFact �
 numbered same (Err why) facts = Err why
 numbered same (Ok f) facts = orUnlisted (firstFrom (same f) 1 facts)
 
+-- Which listed fact a text is, by its number.
+abbrev pub numberOfText : {F : Type 0} → (F → F → Bool) → (List ℕ → Result F NoFact) → List F → List ℕ → Result ℕ NoFact
+numberOfText same read facts text = numbered same (read text) facts
+
 -- A row with the answer of a test at the place of each fact, as far as both reach; what is left of the row stays.
 abbrev pub marked : {F : Type 0} → (F → Bool) → List F → List Bool → List Bool
 marked test [] row = row

@@ -1,7 +1,7 @@
 // What is asked of the facts that a sheet lists, whatever their kind.
 ghost use mathlib.Core.Path.{_≡_};
 ghost use Rattle.sheets.specs.Listed.{firstFrom};
-ghost use Rattle.facts.specs.Listed.{numbered, marked};
+ghost use Rattle.facts.specs.Listed.{numberOfText, marked};
 use crate::kinds::Kind;
 use crate::names::Names;
 use crate::names::NoFact;
@@ -20,7 +20,7 @@ pub fn number_of_same<K: Kind>(facts: &[K::Fact], fact: &K::Fact) -> Option<usiz
 
 // Which listed fact a text is: its number, counted from 1.
 pub fn number_of<K: Kind>(names: &Names, facts: &[K::Fact], text: &[u8]) -> Result<usize, NoFact>
-    ensures { λ r. ⌜ r ≡ numbered alike (reading (now (names .entry)) (now (text .entry))) (now (facts .entry)) ⌝ }
+    ensures { λ r. ⌜ r ≡ numberOfText alike (reading (now (names .entry))) (now (facts .entry)) (now (text .entry)) ⌝ }
 {
     let fact = K::read(names, text)?;
     match number_of_same::<K>(facts, &fact) {

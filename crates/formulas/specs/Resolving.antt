@@ -7,17 +7,12 @@ use Rattle.std.specs.declared.result.Result.{Result}
 use Rattle.std.specs.declared.result.Result.the-variants.{Ok, Err}
 use Rattle.facts.specs.declared.names.NoFact.{NoFact}
 use Rattle.facts.specs.declared.names.NoFact.the-variants as no-fact
-use Rattle.facts.specs.Listed.{numbered}
 use Rattle.formulas.specs.declared.resolve.Unresolved.{Unresolved}
 use Rattle.formulas.specs.declared.resolve.Unresolved.the-variants.{NotItsForm, NotListed, NoMemory}
 use Rattle.formulas.specs.declared.tree.Formula.{Formula as Tree}
 use Rattle.formulas.specs.declared.tree.Formulas.{Formulas as Trees}
 use Rattle.formulas.specs.Formulas.{Formula, Formulas, fact, neg, all, none, more}
 use Rattle.formulas.specs.Shapes.{numbers, numbersAll}
-
--- The number of the listed fact that a text is, counted from 1.
-abbrev pub numberOf : {F : Type 0} → (F → F → Bool) → (List ℕ → Result F NoFact) → List F → List ℕ → Result ℕ NoFact
-numberOf same read facts text = numbered same (read text) facts
 
 abbrev mutual
   -- Every fact of a formula passes a test.
