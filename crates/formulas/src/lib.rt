@@ -1,0 +1,1 @@
+// Formulas: needs, conditions and the goal.
