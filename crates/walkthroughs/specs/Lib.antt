@@ -1,0 +1,9 @@
+pub mod Depots
+pub mod Disturbance
+pub mod Firing
+pub mod Laws
+pub mod Lists
+pub mod Runs
+pub mod Sets
+pub mod Steps
+pub mod Unpickings

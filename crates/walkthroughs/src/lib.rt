@@ -1,0 +1,1 @@
+// Walkthroughs of a depot: the rules of a step, and the law of whole runs.
