@@ -1,2 +1,4 @@
 pub mod Counts
 pub mod Firings
+pub mod Subsets
+pub mod Walking
