@@ -91,3 +91,10 @@ pub same-bool : (a b : Bool) → (a ≡ true → b ≡ true) → (b ≡ true →
 same-bool true b f g = sym (f refl)
 same-bool false true f g = g refl
 same-bool false false f g = refl
+
+-- a number in a list, alone
+pub one-within : (x m : ℕ) (a : List ℕ) → 0 < times m a → one x m ≤ times x a
+one-within x m a there = elim (one-cases x m) [ inl k ↦ here (k .0) (k .1) | inr k ↦ omega arith ]
+  where
+    here : x ≡ m → one x m ≡ 1 → one x m ≤ times x a
+    here e k = rw (k, e) (omega arith)

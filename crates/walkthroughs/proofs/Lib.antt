@@ -1,4 +1,6 @@
 pub mod Counts
+pub mod Disturbing
 pub mod Firings
 pub mod Subsets
+pub mod Unpicks
 pub mod Walking
