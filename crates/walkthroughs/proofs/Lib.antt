@@ -3,6 +3,8 @@ pub mod Disturbing
 pub mod Faulty
 pub mod Firings
 pub mod Places
+pub mod Running
 pub mod Subsets
+pub mod Turning
 pub mod Unpicks
 pub mod Walking

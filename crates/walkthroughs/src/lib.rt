@@ -1,1 +1,2 @@
 // Walkthroughs of a depot: the rules of a step, and the law of whole runs.
+pub mod laws;
