@@ -1,9 +1,12 @@
 pub mod Depots
 pub mod Disturbance
 pub mod Firing
+pub mod Judging
+pub mod Kinds
 pub mod Laws
 pub mod Lists
 pub mod Runs
 pub mod Sets
 pub mod Steps
 pub mod Unpickings
+pub mod Worked
