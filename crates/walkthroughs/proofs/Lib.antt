@@ -2,6 +2,8 @@ pub mod Counts
 pub mod Disturbing
 pub mod Faulty
 pub mod Firings
+pub mod Judged
+pub mod Lowests
 pub mod Places
 pub mod Running
 pub mod Subsets
