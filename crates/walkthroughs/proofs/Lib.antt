@@ -1,3 +1,4 @@
+pub mod Among
 pub mod Counts
 pub mod Disturbing
 pub mod Faulty
@@ -5,6 +6,7 @@ pub mod Firings
 pub mod Judged
 pub mod Lowests
 pub mod Places
+pub mod Replies
 pub mod Running
 pub mod Subsets
 pub mod Turning

@@ -32,7 +32,7 @@ pub data Answer : Type 0 where
   refused : Refusal → Answer
 
 -- A question by number tells, or refuses a number that is not listed among k, and leaves all as it was.
-abbrev Asked : ℕ → ℕ → Bool → Held → Answer → Held → Type 0
+abbrev pub Asked : ℕ → ℕ → Bool → Held → Answer → Held → Type 0
 Asked k n says h (accepted changes) left = ⊥
 Asked k n says h (told b) left = Listed n k × (b ≡ says) × (left .stands ≡ h .stands)
 Asked k n says h (refused w) left = (Listed n k → ⊥) × (w ≡ UnknownNumber) × (left .stands ≡ h .stands)

@@ -10,7 +10,7 @@ use Rattle.std.specs.declared.option.Option.{Option}
 use Rattle.std.specs.declared.option.Option.the-variants.{None, Some}
 use Rattle.std.specs.declared.result.Result.{Result}
 use Rattle.std.specs.declared.result.Result.the-variants.{Ok, Err}
-use Rattle.std.specs.shelf.Lists.{kept-by}
+use Rattle.std.specs.shelf.Lists.{All, kept-by}
 use Rattle.sheets.specs.declared.refusals.Refusal.{Refusal}
 use Rattle.sheets.specs.declared.refusals.Refusal.the-variants.{Contradictory, Disturbed, NeedFalse, UnknownNumber}
 use Rattle.facts.specs.declared.names.NoFact.{NoFact}
@@ -25,7 +25,7 @@ use Rattle.walkthroughs.specs.Depots.{Depot, Effect, Move, State}
 use Rattle.walkthroughs.specs.Firing.{any, clash, startOf}
 use Rattle.walkthroughs.specs.Judging.{answersOf, judge, judgeBy, leftBy, upTo}
 use Rattle.walkthroughs.specs.Kinds.{carriesAmong}
-use Rattle.walkthroughs.specs.Runs.{Answer, Call}
+use Rattle.walkthroughs.specs.Runs.{Answer, Call, Held, Ran, begun}
 use Rattle.walkthroughs.specs.Runs.Answer.{accepted, refused, told}
 use Rattle.walkthroughs.specs.Runs.Call.{look, step, truth}
 
@@ -42,7 +42,7 @@ abbrev both : ℕ → ℕ → Formula ℕ
 both f g = all (more (fact f) (more (fact g) none))
 
 -- The facts of depot S: 1 clear, 2 scan.clear, 3 div.clear, 4 all.clear, 5 count.
-abbrev factsS : List SightFact
+abbrev pub factsS : List SightFact
 factsS = readAll (sightReading (codes "scan" ∷ codes "div" ∷ []) (codes "clear" ∷ codes "count" ∷ [])) (codes "clear" ∷ codes "scan.clear" ∷ codes "div.clear" ∷ codes "all.clear" ∷ codes "count" ∷ [])
 
 -- Depot S, with the moves 1 tell, 2 call, 3 reset, 4 jam.
@@ -63,7 +63,7 @@ depotS =
     }
 
 -- The facts of depot Q: 1 a, 2 b, 3 c.
-abbrev factsQ : List PlainFact
+abbrev pub factsQ : List PlainFact
 factsQ = readAll (plainReading (codes "a" ∷ codes "b" ∷ codes "c" ∷ [])) (codes "a" ∷ codes "b" ∷ codes "c" ∷ [])
 
 -- Depot Q, with the moves 1 m1, 2 m2, 3 m3, 4 t, 5 u.
@@ -85,18 +85,18 @@ depotQ =
     }
 
 -- A line: calls on a new walkthrough of a depot, what they answer, and which facts stand after them.
-record Row : Type 0 where
-  depot : Depot
-  calls : List Call
-  answers : List Answer
-  standing : List ℕ
+pub record Row : Type 0 where
+  pub depot : Depot
+  pub calls : List Call
+  pub answers : List Answer
+  pub standing : List ℕ
 
 -- The k numbers from n on.
-abbrev numbersFrom : ℕ → ℕ → List ℕ
+abbrev pub numbersFrom : ℕ → ℕ → List ℕ
 numbersFrom n zero = []
 numbersFrom n (suc k) = n ∷ numbersFrom (suc n) k
 
-abbrev table : List Row
+abbrev pub table : List Row
 table =
     record { depot = depotS; calls = step (1 ∷ []) ∷ []; answers = accepted 1 ∷ []; standing = 1 ∷ 2 ∷ 3 ∷ [] }
     ∷ record { depot = depotS; calls = step (2 ∷ []) ∷ []; answers = accepted 2 ∷ []; standing = 1 ∷ 2 ∷ 3 ∷ 4 ∷ [] }
@@ -111,15 +111,22 @@ table =
     ∷ []
 
 -- What a line comes to, and what it should.
-abbrev outcome : Row → List Answer × List ℕ
+abbrev pub outcome : Row → List Answer × List ℕ
 outcome r = (answersOf (r .depot) (startOf (r .depot)) (r .calls), kept-by (leftBy (r .depot) (startOf (r .depot)) (r .calls)) (numbersFrom 1 (r .depot .facts)))
 
-abbrev expected : Row → List Answer × List ℕ
+abbrev pub expected : Row → List Answer × List ℕ
 expected r = (r .answers, r .standing)
 
 -- Every line comes out as it stands in the table.
 abbrev pub Worked : Type 0
 Worked = map outcome table ≡ map expected table
+
+-- Every line is a run by the rules.
+abbrev pub IsRun : Row → Type 0
+IsRun r = (left : Held) × Ran (r .depot) (begun (r .depot)) (r .calls) (r .answers) left × (kept-by (left .stands) (numbersFrom 1 (r .depot .facts)) ≡ r .standing)
+
+abbrev pub WorkedRuns : Type 0
+WorkedRuns = All IsRun table
 
 -- A mistake: settings and strikes compared by name, so that a setting meets a strike only if they are one fact.
 abbrev byName : List ℕ → List ℕ → Bool
