@@ -1,6 +1,6 @@
 -- What moves do together, and one after the other. Assumes nothing.
 use mathlib.Core.Path.{_≡_, refl, sym, ap, _∙_, fun-ext}
-use mathlib.Core.Bool.{Bool, true, false, not, cond, _&&_, _||_}
+use mathlib.Core.Bool.{Bool, true, false, not, cond, _&&_, _||_, and-true}
 use mathlib.Core.List.{List, [], _∷_, _++_, append-assoc}
 use mathlib.Core.Logic.{inl, inr}
 use Prim.Native.Nat.{ℕ, zero, suc, _<_, _≤_}
@@ -11,6 +11,7 @@ use Rattle.std.specs.shelf.Lists.{All}
 use Rattle.std.proofs.shelf.Tests.{cases-bool, and-parts, true≢false}
 use Rattle.walkthroughs.specs.Depots.{Depot, Effect, State, Carrying, moveOf, truthOf, reads}
 use Rattle.walkthroughs.specs.Firing.{any, fires, firedBy, fired, adds, removes, after, clash, contradictory, oneByOne, Closed, startOf}
+use Rattle.walkthroughs.specs.Laws.{GroupsJoin, UnlistedStay}
 use Rattle.walkthroughs.specs.Lists.{times, SameMoves, Within}
 use Rattle.walkthroughs.proofs.Counts.{any-append, any-joined, any-weaker, any-within, same-bool}
 
@@ -78,7 +79,7 @@ any-pair : (d : Depot) → Carrying d → (f : ℕ) (settings strikes : List ℕ
 any-pair d law f settings strikes a r = any-weaker (λ g. d .carries g f) (λ g. any (λ h. d .carries g h) strikes) (λ g k. any-weaker (λ h. d .carries f h) (λ h. d .carries g h) (λ h l. law .onward g f h k l) strikes r) settings a
 
 -- composition: moves that read as at the start after others, without contradiction, do after them what all do together
-pub after-after : (d : Depot) → Carrying d → (s : State) (a b : List ℕ) → contradictory d s (a ++ b) ≡ false → All (Alike d s (after d s a)) b → after d (after d s a) b ≡ after d s (a ++ b)
+pub after-after : GroupsJoin
 unfolding after
 after-after d law s a b agreed alike = fun-ext (λ f. after-alike d s (after d s a) b f alike ∙ (joins (adds d s a f) (adds d s b f) (removes d s a f) (removes d s b f) (s f) (apart f) ∙ sym (ap (λ x. x || (s f && not (removes d s (a ++ b) f))) (fired-append d s (λ e. e .settings) (λ g. d .carries g f) a b) ∙ ap (λ x. (adds d s a f || adds d s b f) || (s f && not x)) (fired-append d s (λ e. e .strikes) (λ g. d .carries f g) a b))))
   where
@@ -105,3 +106,15 @@ closed-after d law s ms closed f g stands carried = keeps (adds d s ms f) (s f) 
 
 pub closed-start : (d : Depot) → Carrying d → Closed d (startOf d)
 closed-start d law f g stands carried = any-weaker (λ h. d .carries h f) (λ h. d .carries h g) (λ h k. law .onward h f g k carried) (d .started) stands
+
+-- facts that are not listed stay as they are
+pub unlisted-stay : UnlistedStay
+unfolding after
+unlisted-stay d law s moves f unlisted = rw (never (λ g. d .carries g f) (fired d s (λ e. e .settings) moves) (λ g k. unlisted (law .listed g f k .1)), never (λ g. d .carries f g) (fired d s (λ e. e .strikes) moves) (λ g k. unlisted (law .listed f g k .0))) (and-true (s f))
+  where
+    never : (p : ℕ → Bool) (xs : List ℕ) → ((x : ℕ) → p x ≡ true → ⊥) → any p xs ≡ false
+    never p xs none = elim (cases-bool (any p xs)) [ inr k ↦ k | inl k ↦ absurd (true≢false (sym (any-weaker p (λ x. false) (λ x h. absurd (none x h)) xs k) ∙ any-false xs)) ]
+      where
+        any-false : (xs : List ℕ) → any (λ x. false) xs ≡ false
+        any-false [] = refl
+        any-false (x ∷ xs) = any-false xs

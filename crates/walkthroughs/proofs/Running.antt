@@ -51,14 +51,14 @@ passes-closed d law s t (moves ∷ steps) closed p = passes-closed d law (after 
 pub record Sent (d : Depot) (h : Held) (moves : List ℕ) (t : State) : Type 0 where
   pub answers : List Answer
   pub ran : Ran d h (map (λ m. step (m ∷ [])) moves) answers (record { stands = t })
-  pub all : All IsAccepted answers
+  pub each : All IsAccepted answers
 
 passes-sent : (d : Depot) (h : Held) (moves : List ℕ) (t : State) → Passes d (h .stands) (singles moves) t → Sent d h moves t
-passes-sent d h [] t p = record { answers = []; ran = p; all = tt }
+passes-sent d h [] t p = record { answers = []; ran = p; each = tt }
 passes-sent d h (m ∷ moves) t p = first (passes-sent d (record { stands = after d (h .stands) (m ∷ []) }) moves t (p .1))
   where
     first : Sent d (record { stands = after d (h .stands) (m ∷ []) }) moves t → Sent d h (m ∷ moves) t
-    first r = record { answers = accepted (changed (d .facts) (h .stands) (after d (h .stands) (m ∷ []))) ∷ r .answers; ran = (record { stands = after d (h .stands) (m ∷ []) }, (p .0, refl, refl), r .ran); all = (tt, r .all) }
+    first r = record { answers = accepted (changed (d .facts) (h .stands) (after d (h .stands) (m ∷ []))) ∷ r .answers; ran = (record { stands = after d (h .stands) (m ∷ []) }, (p .0, refl, refl), r .ran); each = (tt, r .each) }
 
 -- a formula that turns is listed
 turned-listed : (d : Depot) (s t : State) (n : ℕ) → truthOf d t n ≡ not (truthOf d s n) → Listed n (length (d .formulas))
@@ -70,7 +70,7 @@ turned-by d law h moves set place part refusal order same = so (passes-sent d h 
     so : Sent d h order (after d (h .stands) (chosen set moves)) → Turned d h order (partOf d (moveAt moves place) part)
     so r =
         let listed = turned-listed d (h .stands) (after d (h .stands) (chosen set moves)) (partOf d (moveAt moves place) part) (refusal .holds .otherwise) in
-        record { answers = r .answers; left = record { stands = after d (h .stands) (chosen set moves) }; ran = r .ran; all = r .all; was = reads d (h .stands) (moveAt moves place) part; before = (listed, refl, refl); now = (listed, sym (refusal .holds .otherwise), refl) }
+        record { answers = r .answers; left = record { stands = after d (h .stands) (chosen set moves) }; ran = r .ran; each = r .each; was = reads d (h .stands) (moveAt moves place) part; toldBefore = (listed, refl, refl); toldAfter = (listed, sym (refusal .holds .otherwise), refl) }
 
 -- the last call of a run, and what was held before it
 last-call : (d : Depot) (h left : Held) (calls : List Call) (answers : List Answer) (c : Call) (a : Answer) → Ran d h (calls ++ c ∷ []) (answers ++ a ∷ []) left → (before next : Held) × Answered d before c a next × (left .stands ≡ next .stands)

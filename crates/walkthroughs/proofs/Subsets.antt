@@ -11,8 +11,9 @@ use lib.ListN.{length, getD}
 use lib.Pow.{pow-pos}
 use Rattle.std.proofs.shelf.Tests.{cases-bool, cases-lt, eqb-true, eqb-false, eq-eqb, ne-eqb, true≢false}
 use Rattle.std.proofs.shelf.Ways.{tells}
+use Rattle.walkthroughs.specs.Laws.{SetsAreSums}
 use Rattle.walkthroughs.specs.Lists.{one, times, SameMoves, Within}
-use Rattle.walkthroughs.specs.Sets.{digit, inSet, chosen}
+use Rattle.walkthroughs.specs.Sets.{digit, inSet, chosen, weightOf}
 use Rattle.walkthroughs.proofs.Counts.{one-is, one-cases, take-out}
 
 -- a set with its first place, and one without it
@@ -124,3 +125,12 @@ number-beside (y ∷ ys) n set m w = elim (parity n) [ inr even ↦ beside-out y
 
     chosen-one : n % 2 ≡ 1 → Within (m ∷ set) (y ∷ chosen (n / 2) ys) → ((a : List ℕ) → Within (m ∷ a) (chosen (n / 2) ys) → Beside ys (n / 2) a m) → Beside (y ∷ ys) n set m
     chosen-one odd v next = elim (one-cases m y) [ inr apart ↦ other odd apart v next | inl k ↦ beside-here y ys n set m odd (k .0) (number-within ys (n / 2) set (λ x. omega (arith, v x, ap (one x) (k .0)))) ]
+
+-- the weight of a set by its first place and the others
+weight-half : (n k : ℕ) → weightOf n (suc k) ≡ n % 2 + 2 * weightOf (n / 2) k
+weight-half n zero = elim (parity n) [ inl odd ↦ rw (eq-eqb (n % 2) 1 odd) (omega arith) | inr even ↦ rw (ne-eqb (n % 2) 1 (λ k. omega arith)) (omega arith) ]
+weight-half n (suc k) = ap (λ x. x + cond (digit (n / 2) k) (2 ^ suc k) 0) (weight-half n k) ∙ elim (cases-bool (digit (n / 2) k)) [ inl yes′ ↦ rw yes′ (omega (arith, pow-suc 2 k)) | inr no′ ↦ rw no′ (omega arith) ]
+
+pub sets-are-sums : SetsAreSums
+sets-are-sums zero n h = omega arith
+sets-are-sums (suc k) n h = weight-half n k ∙ ap (λ x. n % 2 + 2 * x) (sets-are-sums k (n / 2) (omega (arith, pow-suc 2 k))) ∙ omega arith

@@ -78,10 +78,10 @@ pub record Turned (d : Depot) (h : Held) (moves : List ℕ) (formula : ℕ) : Ty
   pub answers : List Answer
   pub left : Held
   pub ran : Ran d h (map (λ m. step (m ∷ [])) moves) answers left
-  pub all : All IsAccepted answers
+  pub each : All IsAccepted answers
   pub was : Bool
-  pub before : Answered d h (truth formula) (told was) h
-  pub now : Answered d left (truth formula) (told (not was)) left
+  pub toldBefore : Answered d h (truth formula) (told was) h
+  pub toldAfter : Answered d left (truth formula) (told (not was)) left
 
 -- The law of a run from the start, which left what `left` holds.
 pub record RunLaw (d : Depot) (calls : List Call) (answers : List Answer) (left : Held) : Type 0 where

@@ -1,9 +1,21 @@
 // What holds of every walkthrough, as contracts that the check asks the proof of.
-ghost use Rattle.walkthroughs.specs.Laws.{StaysClosed, GroupsJoin, OrdersAndSetsAgree, AcceptedUnlessFault, OneRefusal, UnpickingsPass, DisturbedStepsTurn, RunsKeepTheLaw};
+ghost use Rattle.walkthroughs.specs.Laws.{AcceptedUnlessFault, DisturbedStepsTurn, GroupsJoin, JudgedByTheRules, OneRefusal, OneRun, OrdersAndSetsAgree, RunsKeepTheLaw, SetsAreSums, StaysClosed, UnlistedStay, UnpickingsPass};
 
 // The facts at the start are closed under carrying, and steps keep them so.
 pub fn facts_stay_closed()
     ensures { λ _. ⌜ StaysClosed ⌝ }
+{
+}
+
+// Facts that are not listed keep their standing.
+pub fn unlisted_facts_stay()
+    ensures { λ _. ⌜ UnlistedStay ⌝ }
+{
+}
+
+// The number of a set of places is the sum of 2^(place - 1) over its places.
+pub fn sets_are_sums()
+    ensures { λ _. ⌜ SetsAreSums ⌝ }
 {
 }
 
@@ -31,6 +43,12 @@ pub fn steps_have_one_refusal()
 {
 }
 
+// Every step is accepted or refused, as it is computed for the worked lines.
+pub fn steps_are_judged_by_the_rules()
+    ensures { λ _. ⌜ JudgedByTheRules ⌝ }
+{
+}
+
 // Every unpicking of accepted steps is accepted and ends with the same facts.
 pub fn unpickings_pass()
     ensures { λ _. ⌜ UnpickingsPass ⌝ }
@@ -40,6 +58,12 @@ pub fn unpickings_pass()
 // The set that a disturbed step names can be done move by move, and turns the part that it names.
 pub fn disturbed_steps_turn()
     ensures { λ _. ⌜ DisturbedStepsTurn ⌝ }
+{
+}
+
+// Every list of calls has one run: its answers, and the facts that it leaves.
+pub fn calls_have_one_run()
+    ensures { λ _. ⌜ OneRun ⌝ }
 {
 }
 

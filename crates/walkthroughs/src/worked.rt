@@ -1,9 +1,10 @@
 // Two depots worked through by hand, and two mistakes that they show, as contracts that the check asks the proof of.
-ghost use Rattle.walkthroughs.specs.Worked.{NamesMislead, PairsMiss, Worked};
+ghost use Rattle.walkthroughs.specs.Worked.{NamesMislead, PairsMiss, Worked, WorkedRuns};
 
-// Lines worked by hand come out as they should.
+// Lines worked by hand come out as they should, and are runs by the rules.
 pub fn worked_lines_come_out()
-    ensures { λ _. ⌜ Worked ⌝ }
+    ensures computed { λ _. ⌜ Worked ⌝ }
+    ensures runs { λ _. ⌜ WorkedRuns ⌝ }
 {
 }
 
