@@ -1,5 +1,5 @@
 -- The law of whole runs. Assumes nothing.
-use mathlib.Core.Path.{_≡_, refl, sym, ap, _∙_}
+use mathlib.Core.Path.{_≡_, refl, sym, ap, subst, _∙_}
 use mathlib.Core.Bool.{Bool, true, false, not}
 use mathlib.Core.List.{List, [], _∷_, _++_, map}
 use mathlib.Core.Logic.{inl, inr}
@@ -27,6 +27,13 @@ use Rattle.walkthroughs.proofs.Walking.{never-both}
 
 pub stays-closed : StaysClosed
 stays-closed d law = (closed-start d law, closed-after d law)
+
+-- one more call after a run
+pub ran-more : (d : Depot) (h mid left : Held) (calls : List Call) (answers : List Answer) (c : Call) (a : Answer) → Ran d h calls answers mid → Answered d mid c a left → Ran d h (calls ++ c ∷ []) (answers ++ a ∷ []) left
+ran-more d h mid left [] [] c a r x = (left, subst (λ (s : State). Answered d (record { stands = s }) c a left) r x, refl)
+ran-more d h mid left [] (y ∷ answers) c a r x = absurd r
+ran-more d h mid left (x′ ∷ calls) [] c a r x = absurd r
+ran-more d h mid left (x′ ∷ calls) (y ∷ answers) c a (next, this, rest) x = (next, this, ran-more d next mid left calls answers c a rest x)
 
 -- the accepted steps of a run pass, and end where the run ends
 pub ran-passes : (d : Depot) (h : Held) (calls : List Call) (answers : List Answer) (left : Held) → Ran d h calls answers left → Passes d (h .stands) (acceptedSteps calls answers) (left .stands)

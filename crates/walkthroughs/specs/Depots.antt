@@ -69,3 +69,7 @@ partOf d m (suc e) = effectOf d m (suc e) .condition
 -- How a part of a move reads at a state.
 abbrev pub reads : Depot → State → ℕ → ℕ → Bool
 reads d s m e = truthOf d s (partOf d m e)
+
+-- Whether the need of a move is true at a state.
+abbrev pub needTrue : Depot → State → ℕ → Bool
+needTrue d s m = reads d s m 0

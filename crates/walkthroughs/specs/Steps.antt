@@ -8,7 +8,7 @@ use lib.ListN.{length}
 use Rattle.sheets.specs.declared.refusals.Refusal.{Refusal}
 use Rattle.sheets.specs.declared.refusals.Refusal.the-variants.{OverLimit, BadLine, BadLetter, FieldCount, NotItsForm, NotListed, Twice, AlwaysTrue, TableFull, NoGoal, StepSize, UnknownMove, RepeatedMove, NeedFalse, Contradictory, Disturbed, GoalFalse, UnknownNumber, BufferShort, NoMemory}
 use Rattle.sheets.specs.Faults.{Lowest}
-use Rattle.walkthroughs.specs.Depots.{Depot, State, Listed, effectOf, moveOf, reads}
+use Rattle.walkthroughs.specs.Depots.{Depot, State, Listed, effectOf, needTrue}
 use Rattle.walkthroughs.specs.Disturbance.{AlikeInEveryOrder, SetDisturbs, moveAt}
 use Rattle.walkthroughs.specs.Firing.{clash, contradictory, fires}
 use Rattle.walkthroughs.specs.Lists.{times}
@@ -20,16 +20,16 @@ pub record Accepted (d : Depot) (s : State) (moves : List ℕ) : Type 0 where
   pub few : length moves ≤ 8
   pub listed : (m : ℕ) → 0 < times m moves → Listed m (length (d .moves))
   pub once : (m : ℕ) → times m moves ≤ 1
-  pub needs : (m : ℕ) → 0 < times m moves → reads d s m 0 ≡ true
+  pub needs : (m : ℕ) → 0 < times m moves → needTrue d s m ≡ true
   pub agreed : contradictory d s moves ≡ false
   pub alike : AlikeInEveryOrder d s moves
 
--- What is wrong with a step, by its reason and details; a place is one of the step's. Part 0 of a move is its need.
+-- What is wrong with a step, by its reason and details; a place is one of the step's.
 abbrev pub StepFault : Depot → State → List ℕ → Refusal → Type 0
 StepFault d s moves StepSize = (length moves ≡ 0) ⊎ (8 < length moves)
 StepFault d s moves (UnknownMove place) = Listed place (length moves) × (Listed (moveAt moves place) (length (d .moves)) → ⊥)
 StepFault d s moves (RepeatedMove place) = Listed place (length moves) × ((before : ℕ) × Listed before (length moves) × (before < place) × (moveAt moves before ≡ moveAt moves place))
-StepFault d s moves (NeedFalse place) = Listed place (length moves) × (reads d s (moveAt moves place) 0 ≡ false)
+StepFault d s moves (NeedFalse place) = Listed place (length moves) × (needTrue d s (moveAt moves place) ≡ false)
 StepFault d s moves (Contradictory settingPlace settingEffect strikePlace strikeEffect) = Listed settingPlace (length moves) × Listed strikePlace (length moves) × (clash d (fires d s (λ e. e .settings) (effectOf d (moveAt moves settingPlace) settingEffect)) (fires d s (λ e. e .strikes) (effectOf d (moveAt moves strikePlace) strikeEffect)) ≡ true)
 StepFault d s moves (Disturbed set place part) = SetDisturbs d s moves set place part
 StepFault d s moves OverLimit = ⊥

@@ -53,13 +53,13 @@ depotS =
       started = 1 ∷ 2 ∷ [];
       carries = carriesAmong sightCarries factsS;
       moves =
-        record { need = 1; effects = record { condition = 2; settings = 3 ∷ []; strikes = [] } ∷ [] }
-        ∷ record { need = 3; effects = record { condition = 4; settings = 4 ∷ []; strikes = [] } ∷ [] }
-        ∷ record { need = 5; effects = record { condition = 6; settings = 5 ∷ []; strikes = [] } ∷ [] }
-        ∷ record { need = 7; effects = record { condition = 8; settings = []; strikes = 1 ∷ 2 ∷ [] } ∷ [] }
-        ∷ [];
+          record { need = 1; effects = record { condition = 2; settings = 3 ∷ []; strikes = [] } ∷ [] }
+          ∷ record { need = 3; effects = record { condition = 4; settings = 4 ∷ []; strikes = [] } ∷ [] }
+          ∷ record { need = 5; effects = record { condition = 6; settings = 5 ∷ []; strikes = [] } ∷ [] }
+          ∷ record { need = 7; effects = record { condition = 8; settings = []; strikes = 1 ∷ 2 ∷ [] } ∷ [] }
+          ∷ [];
       formulas = both 1 2 ∷ always ∷ fact 2 ∷ always ∷ both 1 3 ∷ always ∷ always ∷ always ∷ fact 5 ∷ [];
-      goal = 9
+      goal = 9;
     }
 
 -- The facts of depot Q: 1 a, 2 b, 3 c.
@@ -74,14 +74,14 @@ depotQ =
       started = [];
       carries = carriesAmong plainSame factsQ;
       moves =
-        record { need = 1; effects = record { condition = 2; settings = 1 ∷ []; strikes = [] } ∷ [] }
-        ∷ record { need = 3; effects = record { condition = 4; settings = 2 ∷ []; strikes = [] } ∷ [] }
-        ∷ record { need = 5; effects = record { condition = 6; settings = 3 ∷ []; strikes = [] } ∷ [] }
-        ∷ record { need = 7; effects = record { condition = 8; settings = []; strikes = 1 ∷ [] } ∷ record { condition = 9; settings = 1 ∷ []; strikes = [] } ∷ [] }
-        ∷ record { need = 10; effects = record { condition = 11; settings = []; strikes = 1 ∷ [] } ∷ record { condition = 12; settings = 1 ∷ []; strikes = [] } ∷ [] }
-        ∷ [];
+          record { need = 1; effects = record { condition = 2; settings = 1 ∷ []; strikes = [] } ∷ [] }
+          ∷ record { need = 3; effects = record { condition = 4; settings = 2 ∷ []; strikes = [] } ∷ [] }
+          ∷ record { need = 5; effects = record { condition = 6; settings = 3 ∷ []; strikes = [] } ∷ [] }
+          ∷ record { need = 7; effects = record { condition = 8; settings = []; strikes = 1 ∷ [] } ∷ record { condition = 9; settings = 1 ∷ []; strikes = [] } ∷ [] }
+          ∷ record { need = 10; effects = record { condition = 11; settings = []; strikes = 1 ∷ [] } ∷ record { condition = 12; settings = 1 ∷ []; strikes = [] } ∷ [] }
+          ∷ [];
       formulas = always ∷ always ∷ always ∷ always ∷ always ∷ both 1 2 ∷ always ∷ fact 1 ∷ neg (fact 1) ∷ always ∷ fact 1 ∷ neg (fact 1) ∷ always ∷ [];
-      goal = 13
+      goal = 13;
     }
 
 -- A line: calls on a new walkthrough of a depot, what they answer, and which facts stand after them.

@@ -5,17 +5,14 @@ ghost use Rattle.walkthroughs.specs.Worked.{NamesMislead, PairsMiss, Worked, W
 pub fn worked_lines_come_out()
     ensures computed { λ _. ⌜ Worked ⌝ }
     ensures runs { λ _. ⌜ WorkedRuns ⌝ }
-{
-}
+{}
 
 // Comparing facts by name would tell a contradiction as a disturbance.
 pub fn names_mislead()
     ensures { λ _. ⌜ NamesMislead ⌝ }
-{
-}
+{}
 
 // Trying disturbance on pairs would let a disturbed step of three moves through.
 pub fn pairs_miss()
     ensures { λ _. ⌜ PairsMiss ⌝ }
-{
-}
+{}
