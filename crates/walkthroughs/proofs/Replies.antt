@@ -17,13 +17,14 @@ use Rattle.facts.specs.Plain.{plainSame}
 use Rattle.facts.specs.Sight.{sightCarries}
 use Rattle.facts.proofs.Carrying.{sightCarries-refl, sightCarries-trans}
 use Rattle.walkthroughs.specs.Depots.{Carrying, Depot, Listed, State, truthOf}
+use Rattle.walkthroughs.specs.Examples.{depotG, depotQ, depotS, factsG, factsQ, factsS}
 use Rattle.walkthroughs.specs.Firing.{after, startOf}
 use Rattle.walkthroughs.specs.Judging.{answerOf, answersOf, isListed, judge, leavesOf, leftBy, stepAnswer, stepLeaves}
 use Rattle.walkthroughs.specs.Laws.{Judged, OneRun}
 use Rattle.walkthroughs.specs.Runs.{Answer, Answered, Asked, Call, Held, Ran, begun}
 use Rattle.walkthroughs.specs.Runs.Answer.{accepted, refused, told}
 use Rattle.walkthroughs.specs.Runs.Call.{look, step, truth}
-use Rattle.walkthroughs.specs.Worked.{IsRun, Row, Worked, WorkedRuns, depotQ, depotS, expected, factsQ, factsS, outcome, table}
+use Rattle.walkthroughs.specs.Worked.{IsRun, Row, Worked, WorkedRuns, expected, outcome, table}
 use Rattle.walkthroughs.proofs.Among.{carrying-among}
 use Rattle.walkthroughs.proofs.Faulty.{no-fault, one-refusal}
 use Rattle.walkthroughs.proofs.Judged.{decides-listed, judged}
@@ -83,6 +84,9 @@ one-run d law h calls = (runs d law h calls, runs-once d law h calls)
 carrying-S : Carrying depotS
 carrying-S = carrying-among sightCarries factsS sightCarries-refl sightCarries-trans depotS refl refl
 
+carrying-G : Carrying depotG
+carrying-G = carrying-among sightCarries factsG sightCarries-refl sightCarries-trans depotG refl refl
+
 plain-onward : (a b c : PlainFact) → plainSame a b ≡ true → plainSame b c ≡ true → plainSame a c ≡ true
 plain-onward a b c p q = eq-eqb (a .matter) (c .matter) (eqb-true (a .matter) (b .matter) p ∙ eqb-true (b .matter) (c .matter) q)
 
@@ -98,4 +102,4 @@ rows-run [] laws e = tt
 rows-run (r ∷ rows) laws e = (row-runs r (laws .0) (ap (λ l. getD l 0 (outcome r)) e), rows-run rows (laws .1) (ap (drop 1) e))
 
 pub worked-runs : Worked → WorkedRuns
-worked-runs = rows-run table (carrying-S, (carrying-S, (carrying-S, (carrying-S, (carrying-S, (carrying-S, (carrying-S, (carrying-Q, (carrying-Q, (carrying-Q, tt))))))))))
+worked-runs = rows-run table (carrying-S, (carrying-S, (carrying-S, (carrying-S, (carrying-S, (carrying-S, (carrying-S, (carrying-Q, (carrying-Q, (carrying-Q, (carrying-G, tt)))))))))))

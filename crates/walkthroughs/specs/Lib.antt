@@ -1,10 +1,12 @@
 pub mod Depots
 pub mod Disturbance
+pub mod Examples
 pub mod Firing
 pub mod Judging
 pub mod Kinds
 pub mod Laws
 pub mod Lists
+pub mod Mistakes
 pub mod Runs
 pub mod Sets
 pub mod Steps

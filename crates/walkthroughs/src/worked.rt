@@ -1,5 +1,6 @@
-// Two depots worked through by hand, and two mistakes that they show, as contracts that the check asks the proof of.
-ghost use Rattle.walkthroughs.specs.Worked.{NamesMislead, PairsMiss, Worked, WorkedRuns};
+// Depots worked through by hand, and two mistakes that they show, as contracts that the check asks the proof of.
+ghost use Rattle.walkthroughs.specs.Mistakes.{NamesMislead, PairsMiss};
+ghost use Rattle.walkthroughs.specs.Worked.{Worked, WorkedRuns};
 
 // Lines worked by hand come out as they should, and are runs by the rules.
 pub fn worked_lines_come_out()
