@@ -1,12 +1,11 @@
 -- Disturbance by orders and by sets. Assumes nothing.
-use mathlib.Core.Path.{_≡_, refl, sym, ap, _∙_}
-use mathlib.Core.Bool.{Bool, true, false, not}
-use mathlib.Core.List.{List, [], _∷_, _++_}
-use mathlib.Core.Logic.{_⊎_, _↔_, inl, inr}
-use Prim.Native.Nat.{ℕ, zero, suc, _-_, _^_, _<_, _≤_}
+use mathlib.Core.Path.{_≡_, ap}
+use mathlib.Core.Bool.{false, not}
+use mathlib.Core.List.{List, _∷_, _++_}
+use mathlib.Core.Logic.{inl, inr}
+use Prim.Native.Nat.{ℕ, zero, suc, _-_, _^_, _≤_}
 use native.Mathlib.Omega.{arith}
 use lib.ListN.{length, getD}
-use lib.Pow.{pow-pos}
 use Rattle.walkthroughs.specs.Depots.{Depot, State, Carrying, reads}
 use Rattle.walkthroughs.specs.Disturbance.{AlikeInEveryOrder, DisturbedByOrder, DisturbedBySet, SetDisturbs}
 use Rattle.walkthroughs.specs.Firing.{after, contradictory, oneByOne}

@@ -1,7 +1,7 @@
 -- A step is accepted exactly where no fault holds, and has one refusal at the most. Assumes nothing.
-use mathlib.Core.Path.{_≡_, refl, sym, ap, _∙_}
-use mathlib.Core.Bool.{Bool, true, false}
-use mathlib.Core.List.{List, [], _∷_, _++_}
+use mathlib.Core.Path.{_≡_, refl, sym, _∙_}
+use mathlib.Core.Bool.{true, false}
+use mathlib.Core.List.{List}
 use mathlib.Core.Logic.{inl, inr}
 use Prim.Native.Nat.{ℕ, _<_, _≤_}
 use native.Mathlib.Omega.{arith}
@@ -11,15 +11,38 @@ use Rattle.sheets.specs.declared.refusals.Refusal.{Refusal}
 use Rattle.sheets.specs.declared.refusals.Refusal.the-variants.{OverLimit, BadLine, BadLetter, FieldCount, NotItsForm, NotListed, Twice, AlwaysTrue, TableFull, NoGoal, StepSize, UnknownMove, RepeatedMove, NeedFalse, Contradictory, Disturbed, GoalFalse, UnknownNumber, BufferShort, NoMemory}
 use Rattle.sheets.specs.Refusals.{numberOf, rankOf}
 use Rattle.sheets.proofs.Single.{same-rank, same-rows}
-use Rattle.walkthroughs.specs.Depots.{Depot, State, Carrying, Listed, effectOf, reads}
+use Rattle.walkthroughs.specs.Depots.{Depot, State, Carrying, Listed, reads}
 use Rattle.walkthroughs.specs.Disturbance.{AlikeInEveryOrder, DisturbedBySet, moveAt}
-use Rattle.walkthroughs.specs.Firing.{any, clash, contradictory, fired, fires}
+use Rattle.walkthroughs.specs.Firing.{any, contradictory, fired, settingsAt, strikesAt}
 use Rattle.walkthroughs.specs.Laws.{AcceptedUnlessFault, OneRefusal}
 use Rattle.walkthroughs.specs.Lists.{times}
-use Rattle.walkthroughs.specs.Steps.{Accepted, StepFault, StepRefused}
+use Rattle.walkthroughs.specs.Steps.{Accepted, StepFault}
 use Rattle.walkthroughs.proofs.Counts.{any-weaker}
 use Rattle.walkthroughs.proofs.Disturbing.{alike-unless, disturbed-unless, order-to-set, set-to-order}
 use Rattle.walkthroughs.proofs.Places.{FiredAt, any-swap, at-fired, fired-at, listed-or-not, place-of, times-at, times-twice, two-places}
+
+-- what holds of every fault of a step, reason by reason
+pub by-fault : (d : Depot) (s : State) (moves : List ℕ) (P : Refusal → Type 0) → (StepFault d s moves StepSize → P StepSize) → ((p : ℕ) → StepFault d s moves (UnknownMove p) → P (UnknownMove p)) → ((p : ℕ) → StepFault d s moves (RepeatedMove p) → P (RepeatedMove p)) → ((p : ℕ) → StepFault d s moves (NeedFalse p) → P (NeedFalse p)) → ((p e q h : ℕ) → StepFault d s moves (Contradictory p e q h) → P (Contradictory p e q h)) → ((n p e : ℕ) → StepFault d s moves (Disturbed n p e) → P (Disturbed n p e)) → (w : Refusal) → StepFault d s moves w → P w
+by-fault d s moves P size unknown repeated lacking clashing disturbed StepSize f = size f
+by-fault d s moves P size unknown repeated lacking clashing disturbed (UnknownMove p) f = unknown p f
+by-fault d s moves P size unknown repeated lacking clashing disturbed (RepeatedMove p) f = repeated p f
+by-fault d s moves P size unknown repeated lacking clashing disturbed (NeedFalse p) f = lacking p f
+by-fault d s moves P size unknown repeated lacking clashing disturbed (Contradictory p e q h) f = clashing p e q h f
+by-fault d s moves P size unknown repeated lacking clashing disturbed (Disturbed n p e) f = disturbed n p e f
+by-fault d s moves P size unknown repeated lacking clashing disturbed OverLimit f = absurd f
+by-fault d s moves P size unknown repeated lacking clashing disturbed BadLine f = absurd f
+by-fault d s moves P size unknown repeated lacking clashing disturbed BadLetter f = absurd f
+by-fault d s moves P size unknown repeated lacking clashing disturbed FieldCount f = absurd f
+by-fault d s moves P size unknown repeated lacking clashing disturbed (NotItsForm field) f = absurd f
+by-fault d s moves P size unknown repeated lacking clashing disturbed (NotListed field) f = absurd f
+by-fault d s moves P size unknown repeated lacking clashing disturbed (Twice field) f = absurd f
+by-fault d s moves P size unknown repeated lacking clashing disturbed (AlwaysTrue field) f = absurd f
+by-fault d s moves P size unknown repeated lacking clashing disturbed TableFull f = absurd f
+by-fault d s moves P size unknown repeated lacking clashing disturbed NoGoal f = absurd f
+by-fault d s moves P size unknown repeated lacking clashing disturbed GoalFalse f = absurd f
+by-fault d s moves P size unknown repeated lacking clashing disturbed UnknownNumber f = absurd f
+by-fault d s moves P size unknown repeated lacking clashing disturbed BufferShort f = absurd f
+by-fault d s moves P size unknown repeated lacking clashing disturbed NoMemory f = absurd f
 
 -- a step but for disturbance
 pub record Orderly (d : Depot) (s : State) (moves : List ℕ) : Type 0 where
@@ -45,11 +68,11 @@ pub record ClashAt (d : Depot) (s : State) (moves : List ℕ) : Type 0 where
 pub clash-at : (d : Depot) (s : State) (moves : List ℕ) → contradictory d s moves ≡ true → ClashAt d s moves
 clash-at d s moves h = of-setting (fired-at d s (λ e. e .settings) (λ g. any (λ f. d .carries g f) (fired d s (λ e. e .strikes) moves)) moves h)
   where
-    of-strike : (p e : ℕ) → Listed p (length moves) → FiredAt d s (λ e. e .strikes) (λ f. any (λ g. d .carries g f) (fires d s (λ e. e .settings) (effectOf d (moveAt moves p) e))) moves → ClashAt d s moves
-    of-strike p e placed b = record { setting = p; settingEffect = e; strike = b .place; strikeEffect = b .effect; fault = (placed, b .placed, any-swap (λ f g. d .carries g f) (fires d s (λ e. e .strikes) (effectOf d (moveAt moves (b .place)) (b .effect))) (fires d s (λ e. e .settings) (effectOf d (moveAt moves p) e)) (b .here)) }
+    of-strike : (p e : ℕ) → Listed p (length moves) → FiredAt d s (λ e. e .strikes) (λ f. any (λ g. d .carries g f) (settingsAt d s (moveAt moves p) e)) moves → ClashAt d s moves
+    of-strike p e placed b = record { setting = p; settingEffect = e; strike = b .place; strikeEffect = b .effect; fault = (placed, b .placed, any-swap (λ f g. d .carries g f) (strikesAt d s (moveAt moves (b .place)) (b .effect)) (settingsAt d s (moveAt moves p) e) (b .here)) }
 
     of-setting : FiredAt d s (λ e. e .settings) (λ g. any (λ f. d .carries g f) (fired d s (λ e. e .strikes) moves)) moves → ClashAt d s moves
-    of-setting a = of-strike (a .place) (a .effect) (a .placed) (fired-at d s (λ e. e .strikes) (λ f. any (λ g. d .carries g f) (fires d s (λ e. e .settings) (effectOf d (moveAt moves (a .place)) (a .effect)))) moves (any-swap (λ g f. d .carries g f) (fires d s (λ e. e .settings) (effectOf d (moveAt moves (a .place)) (a .effect))) (fired d s (λ e. e .strikes) moves) (a .here)))
+    of-setting a = of-strike (a .place) (a .effect) (a .placed) (fired-at d s (λ e. e .strikes) (λ f. any (λ g. d .carries g f) (settingsAt d s (moveAt moves (a .place)) (a .effect))) moves (any-swap (λ g f. d .carries g f) (settingsAt d s (moveAt moves (a .place)) (a .effect)) (fired d s (λ e. e .strikes) moves) (a .here)))
 
 module _ (d : Depot) (s : State) (moves : List ℕ) (never : NoneBefore d s moves) where
   pub orderly : Orderly d s moves
@@ -96,27 +119,26 @@ module _ (d : Depot) (law : Carrying d) (s : State) (moves : List ℕ) where
       by-set (set, place, part, b) = never (Disturbed set place part) b
 
   pub no-fault : Accepted d s moves → (w : Refusal) → StepFault d s moves w → ⊥
-  no-fault step StepSize (inl none) = omega (arith, step .some)
-  no-fault step StepSize (inr many) = omega (arith, step .few)
-  no-fault step (UnknownMove p) f = f .1 (step .listed (moveAt moves p) (times-at p moves (f .0)))
-  no-fault step (RepeatedMove p) f = omega (arith, step .once (moveAt moves p), times-twice p (f .1 .0) moves (f .0) (f .1 .1) (f .1 .2) (f .1 .3))
-  no-fault step (NeedFalse p) f = true≢false (sym (step .needs (moveAt moves p) (times-at p moves (f .0))) ∙ f .1)
-  no-fault step (Contradictory p e q h) f = true≢false (sym (at-fired d s (λ x. x .settings) (λ g. any (λ f. d .carries g f) (fired d s (λ x. x .strikes) moves)) moves p e refl (f .0) (any-weaker (λ g. any (λ f. d .carries g f) (fires d s (λ x. x .strikes) (effectOf d (moveAt moves q) h))) (λ g. any (λ f. d .carries g f) (fired d s (λ x. x .strikes) moves)) (λ g. at-fired d s (λ x. x .strikes) (λ f. d .carries g f) moves q h refl (f .1)) (fires d s (λ x. x .settings) (effectOf d (moveAt moves p) e)) (f .2))) ∙ step .agreed)
-  no-fault step (Disturbed set place part) b = disturbed-unless d s moves (step .alike) (set-to-order d law s moves (step .agreed) set place part b)
-  no-fault step OverLimit f = f
-  no-fault step BadLine f = f
-  no-fault step BadLetter f = f
-  no-fault step FieldCount f = f
-  no-fault step (NotItsForm field) f = f
-  no-fault step (NotListed field) f = f
-  no-fault step (Twice field) f = f
-  no-fault step (AlwaysTrue field) f = f
-  no-fault step TableFull f = f
-  no-fault step NoGoal f = f
-  no-fault step GoalFalse f = f
-  no-fault step UnknownNumber f = f
-  no-fault step BufferShort f = f
-  no-fault step NoMemory f = f
+  no-fault step = by-fault d s moves (λ w. ⊥) size unknown repeated lacking clashing (λ n p e b. disturbed-unless d s moves (step .alike) (set-to-order d law s moves (step .agreed) n p e b))
+    where
+      size : StepFault d s moves StepSize → ⊥
+      size (inl none) = omega (arith, step .some)
+      size (inr many) = omega (arith, step .few)
+
+      unknown : (p : ℕ) → StepFault d s moves (UnknownMove p) → ⊥
+      unknown p f = f .1 (step .listed (moveAt moves p) (times-at p moves (f .0)))
+
+      repeated : (p : ℕ) → StepFault d s moves (RepeatedMove p) → ⊥
+      repeated p f = omega (arith, step .once (moveAt moves p), times-twice p (f .1 .0) moves (f .0) (f .1 .1) (f .1 .2) (f .1 .3))
+
+      lacking : (p : ℕ) → StepFault d s moves (NeedFalse p) → ⊥
+      lacking p f = true≢false (sym (step .needs (moveAt moves p) (times-at p moves (f .0))) ∙ f .1)
+
+      clashing : (p e q h : ℕ) → StepFault d s moves (Contradictory p e q h) → ⊥
+      clashing p e q h f = true≢false (sym (at-fired d s (λ x. x .settings) (λ g. any (λ y. d .carries g y) struck) moves p e refl (f .0) (any-weaker (λ g. any (λ y. d .carries g y) (strikesAt d s (moveAt moves q) h)) (λ g. any (λ y. d .carries g y) struck) (λ g. at-fired d s (λ x. x .strikes) (λ y. d .carries g y) moves q h refl (f .1)) (settingsAt d s (moveAt moves p) e) (f .2))) ∙ step .agreed)
+        where
+          struck : List ℕ
+          struck = fired d s (λ x. x .strikes) moves
 
 pub accepted-unless-fault : AcceptedUnlessFault
 accepted-unless-fault d law s moves = (no-fault d law s moves, accepted-unless d law s moves)

@@ -1,18 +1,18 @@
 -- What moves do together, and one after the other. Assumes nothing.
 use mathlib.Core.Path.{_≡_, refl, sym, ap, _∙_, fun-ext}
 use mathlib.Core.Bool.{Bool, true, false, not, cond, _&&_, _||_, and-true}
-use mathlib.Core.List.{List, [], _∷_, _++_, append-assoc}
+use mathlib.Core.List.{List, [], _∷_, _++_}
 use mathlib.Core.Logic.{inl, inr}
-use Prim.Native.Nat.{ℕ, zero, suc, _<_, _≤_}
+use Prim.Native.Nat.{ℕ, suc}
 use native.Mathlib.Omega.{arith}
-use lib.ListN.{length, getD}
+use lib.ListN.{getD}
 use Rattle.std.specs.Joined.{joined}
 use Rattle.std.specs.shelf.Lists.{All}
-use Rattle.std.proofs.shelf.Tests.{cases-bool, and-parts, true≢false}
+use Rattle.std.proofs.shelf.Tests.{cases-bool, true≢false}
 use Rattle.walkthroughs.specs.Depots.{Depot, Effect, State, Carrying, moveOf, truthOf, reads}
 use Rattle.walkthroughs.specs.Firing.{any, fires, firedBy, fired, adds, removes, after, clash, contradictory, oneByOne, Closed, startOf}
 use Rattle.walkthroughs.specs.Laws.{GroupsJoin, UnlistedStay}
-use Rattle.walkthroughs.specs.Lists.{times, SameMoves, Within}
+use Rattle.walkthroughs.specs.Lists.{SameMoves, Within}
 use Rattle.walkthroughs.proofs.Counts.{any-append, any-joined, any-weaker, any-within, same-bool}
 
 abbrev pub nothing : Effect

@@ -1,32 +1,32 @@
 -- The computed refusal is the refusal of the rules. Assumes nothing.
 use mathlib.Core.Path.{_≡_, refl, sym, ap, _∙_}
-use mathlib.Core.Bool.{Bool, true, false, not, Bool·beq, _&&_, _||_}
+use mathlib.Core.Bool.{Bool, true, false, not, Bool·beq, _&&_}
 use mathlib.Core.List.{List, [], _∷_, _++_}
-use mathlib.Core.Logic.{_⊎_, inl, inr}
-use Prim.Native.Nat.{ℕ, zero, suc, _+_, _^_, _<_, _≤_}
+use mathlib.Core.Logic.{inl, inr}
+use Prim.Native.Nat.{ℕ, zero, suc, _^_, _<_, _≤_}
 use native.Mathlib.Omega.{arith}
 use lib.Dec.{eqb, leb, ltb}
-use lib.ListN.{length, getD}
+use lib.ListN.{length}
 use Rattle.std.specs.declared.option.Option.{Option}
 use Rattle.std.specs.declared.option.Option.the-variants.{None, Some}
 use Rattle.std.specs.Joined.{joined}
 use Rattle.std.specs.Orderings.{Decides}
 use Rattle.std.specs.shelf.Lists.{kept-by}
 use Rattle.std.proofs.shelf.Lists.{getD-past, length-append}
-use Rattle.std.proofs.shelf.Tests.{and-from, and-parts, cases-lt, eqb-true, eq-eqb, false≢true, le-leb, leb-true, lt-ltb, ltb-true, not-from-false, not-true, true≢false}
+use Rattle.std.proofs.shelf.Tests.{cases-lt, false≢true, le-leb, leb-true, not-from-false, not-true, true≢false}
 use Rattle.std.proofs.shelf.Ways.{decides-and, decides-eqb, decides-like, decides-ltb, decides-not, decides-or}
 use Rattle.sheets.specs.declared.refusals.Refusal.{Refusal}
 use Rattle.sheets.specs.declared.refusals.Refusal.the-variants.{OverLimit, BadLine, BadLetter, FieldCount, NotItsForm, NotListed, Twice, AlwaysTrue, TableFull, NoGoal, StepSize, UnknownMove, RepeatedMove, NeedFalse, Contradictory, Disturbed, GoalFalse, UnknownNumber, BufferShort, NoMemory}
 use Rattle.walkthroughs.specs.Depots.{Depot, Effect, State, Carrying, Listed, effectOf, moveOf, reads}
-use Rattle.walkthroughs.specs.Disturbance.{SetDisturbs, moveAt}
-use Rattle.walkthroughs.specs.Firing.{after, any, clash, fires}
-use Rattle.walkthroughs.specs.Judging.{effectsIn, hasFault, isListed, judge, lowestOf, possible, upTo}
+use Rattle.walkthroughs.specs.Disturbance.{moveAt}
+use Rattle.walkthroughs.specs.Firing.{after, any, clash, fires, settingsAt, strikesAt}
+use Rattle.walkthroughs.specs.Judging.{effectsIn, hasFault, isListed, judge, possible, upTo}
 use Rattle.walkthroughs.specs.Laws.{Judged, JudgedByTheRules}
-use Rattle.walkthroughs.specs.Lists.{one, times}
+use Rattle.walkthroughs.specs.Lists.{times}
 use Rattle.walkthroughs.specs.Sets.{chosen, inSet}
-use Rattle.walkthroughs.specs.Steps.{Accepted, StepFault, StepRefused}
+use Rattle.walkthroughs.specs.Steps.{StepFault}
 use Rattle.walkthroughs.proofs.Counts.{any-at, any-find, one-cases, one-is}
-use Rattle.walkthroughs.proofs.Faulty.{accepted-unless}
+use Rattle.walkthroughs.proofs.Faulty.{accepted-unless, by-fault}
 use Rattle.walkthroughs.proofs.Firings.{nothing}
 use Rattle.walkthroughs.proofs.Lowests.{LowestIn, Member, kept-member, lowest-in, member-joined, member-kept, member-left, member-right}
 use Rattle.walkthroughs.proofs.Places.{any-swap, times-at}
@@ -95,7 +95,7 @@ module _ (d : Depot) (s : State) (moves : List ℕ) where
   faults-decided (Contradictory p e q h) = decides-like (tests (Contradictory p e q h)) (λ f. (f .0, f .1 .0, f .1 .1)) (λ f. (f .0, (f .1, f .2))) (decides-and (isListed p (length moves)) (isListed q (length moves) && meets) (decides-listed p (length moves)) (decides-and (isListed q (length moves)) meets (decides-listed q (length moves)) (decides-is meets)))
     where
       meets : Bool
-      meets = clash d (fires d s (λ x. x .settings) (effectOf d (moveAt moves p) e)) (fires d s (λ x. x .strikes) (effectOf d (moveAt moves q) h))
+      meets = clash d (settingsAt d s (moveAt moves p) e) (strikesAt d s (moveAt moves q) h)
   faults-decided (Disturbed n p e) = decides-like (tests (Disturbed n p e)) (λ f. record { known = f .0; placed = f .1 .0; outside = f .1 .1 .0; otherwise = f .1 .1 .1 }) (λ b. (b .known, (b .placed, (b .outside, b .otherwise)))) (decides-and (ltb n (2 ^ length moves)) (isListed p (length moves) && (not (inSet n p) && not (Bool·beq then now))) (decides-ltb n (2 ^ length moves)) (decides-and (isListed p (length moves)) (not (inSet n p) && not (Bool·beq then now)) (decides-listed p (length moves)) (decides-and (not (inSet n p)) (not (Bool·beq then now)) (decides-isnt (inSet n p)) (decides-otherwise then now))))
     where
       then : Bool
@@ -122,6 +122,12 @@ module _ (d : Depot) (s : State) (moves : List ℕ) where
   abbrev listed : List Refusal
   listed = possible (length moves) (effectsIn d moves)
 
+  in-row : (w : Refusal) (f : ℕ → List Refusal) (i n : ℕ) → i ≤ n → Member w (f i) → Member w (joined f (upTo n))
+  in-row w f i n h m = member-joined w f i (upTo n) (in-upTo i n h) m
+
+  in-step : (p e : ℕ) → Listed p (length moves) → e ≤ length (moveOf d (moveAt moves p) .effects) → e ≤ effectsIn d moves
+  in-step p e l h = omega (arith, length-joined (λ m. moveOf d m .effects) (moveAt moves p) moves (times-at p moves l))
+
   abbrev atPlace : ℕ → List Refusal
   atPlace p = UnknownMove p ∷ RepeatedMove p ∷ NeedFalse p ∷ joined (λ e. joined (λ q. joined (λ h. Contradictory p e q h ∷ []) (upTo (effectsIn d moves))) (upTo (length moves))) (upTo (effectsIn d moves))
 
@@ -129,32 +135,26 @@ module _ (d : Depot) (s : State) (moves : List ℕ) where
   ofSet n = joined (λ p. joined (λ e. Disturbed n p e ∷ []) (upTo (effectsIn d moves))) (upTo (length moves))
 
   at-place : (w : Refusal) (p : ℕ) → Listed p (length moves) → Member w (atPlace p) → Member w listed
-  at-place w p l m = inr (member-left w (joined atPlace (upTo (length moves))) (joined ofSet (upTo (2 ^ length moves))) (member-joined w atPlace p (upTo (length moves)) (in-upTo p (length moves) (l .1)) m))
+  at-place w p l m = inr (member-left w (joined atPlace (upTo (length moves))) (joined ofSet (upTo (2 ^ length moves))) (in-row w atPlace p (length moves) (l .1) m))
 
-  in-step : (p e : ℕ) → Listed p (length moves) → e ≤ length (moveOf d (moveAt moves p) .effects) → 0 < times e (upTo (effectsIn d moves))
-  in-step p e l h = in-upTo e (effectsIn d moves) (omega (arith, length-joined (λ m. moveOf d m .effects) (moveAt moves p) moves (times-at p moves l)))
+  of-set : (w : Refusal) (n : ℕ) → n < 2 ^ length moves → Member w (ofSet n) → Member w listed
+  of-set w n l m = inr (member-right w (joined atPlace (upTo (length moves))) (joined ofSet (upTo (2 ^ length moves))) (in-row w ofSet n (2 ^ length moves) (omega arith) m))
 
   faults-listed : (w : Refusal) → StepFault d s moves w → Member w listed
-  faults-listed StepSize f = inl refl
-  faults-listed (UnknownMove p) f = at-place (UnknownMove p) p (f .0) (inl refl)
-  faults-listed (RepeatedMove p) f = at-place (RepeatedMove p) p (f .0) (inr (inl refl))
-  faults-listed (NeedFalse p) f = at-place (NeedFalse p) p (f .0) (inr (inr (inl refl)))
-  faults-listed (Contradictory p e q h) f = at-place (Contradictory p e q h) p (f .0) (inr (inr (inr (member-joined (Contradictory p e q h) (λ e. joined (λ q. joined (λ h. Contradictory p e q h ∷ []) (upTo (effectsIn d moves))) (upTo (length moves))) e (upTo (effectsIn d moves)) (in-step p e (f .0) (effect-bound d s (λ x. x .settings) (λ g. any (λ f. d .carries g f) (fires d s (λ x. x .strikes) (effectOf d (moveAt moves q) h))) (moveAt moves p) e refl (f .2))) (member-joined (Contradictory p e q h) (λ q. joined (λ h. Contradictory p e q h ∷ []) (upTo (effectsIn d moves))) q (upTo (length moves)) (in-upTo q (length moves) (f .1 .1)) (member-joined (Contradictory p e q h) (λ h. Contradictory p e q h ∷ []) h (upTo (effectsIn d moves)) (in-step q h (f .1) (effect-bound d s (λ x. x .strikes) (λ y. any (λ g. d .carries g y) (fires d s (λ x. x .settings) (effectOf d (moveAt moves p) e))) (moveAt moves q) h refl (any-swap (λ g y. d .carries g y) (fires d s (λ x. x .settings) (effectOf d (moveAt moves p) e)) (fires d s (λ x. x .strikes) (effectOf d (moveAt moves q) h)) (f .2)))) (inl refl)))))))
-  faults-listed (Disturbed n p e) b = inr (member-right (Disturbed n p e) (joined atPlace (upTo (length moves))) (joined ofSet (upTo (2 ^ length moves))) (member-joined (Disturbed n p e) ofSet n (upTo (2 ^ length moves)) (in-upTo n (2 ^ length moves) (omega (arith, b .known))) (member-joined (Disturbed n p e) (λ p. joined (λ e. Disturbed n p e ∷ []) (upTo (effectsIn d moves))) p (upTo (length moves)) (in-upTo p (length moves) (b .placed .1)) (member-joined (Disturbed n p e) (λ e. Disturbed n p e ∷ []) e (upTo (effectsIn d moves)) (in-step p e (b .placed) (part-bound d s (after d s (chosen n moves)) (moveAt moves p) e (b .otherwise))) (inl refl)))))
-  faults-listed OverLimit f = absurd f
-  faults-listed BadLine f = absurd f
-  faults-listed BadLetter f = absurd f
-  faults-listed FieldCount f = absurd f
-  faults-listed (NotItsForm field) f = absurd f
-  faults-listed (NotListed field) f = absurd f
-  faults-listed (Twice field) f = absurd f
-  faults-listed (AlwaysTrue field) f = absurd f
-  faults-listed TableFull f = absurd f
-  faults-listed NoGoal f = absurd f
-  faults-listed GoalFalse f = absurd f
-  faults-listed UnknownNumber f = absurd f
-  faults-listed BufferShort f = absurd f
-  faults-listed NoMemory f = absurd f
+  faults-listed = by-fault d s moves (λ w. Member w listed) (λ f. inl refl) (λ p f. at-place (UnknownMove p) p (f .0) (inl refl)) (λ p f. at-place (RepeatedMove p) p (f .0) (inr (inl refl))) (λ p f. at-place (NeedFalse p) p (f .0) (inr (inr (inl refl)))) clashing disturbed
+    where
+      clashing : (p e q h : ℕ) → StepFault d s moves (Contradictory p e q h) → Member (Contradictory p e q h) listed
+      clashing p e q h f =
+          let w = Contradictory p e q h in
+          let sets : e ≤ effectsIn d moves = in-step p e (f .0) (effect-bound d s (λ x. x .settings) (λ g. any (λ y. d .carries g y) (strikesAt d s (moveAt moves q) h)) (moveAt moves p) e refl (f .2)) in
+          let strikes : h ≤ effectsIn d moves = in-step q h (f .1) (effect-bound d s (λ x. x .strikes) (λ y. any (λ g. d .carries g y) (settingsAt d s (moveAt moves p) e)) (moveAt moves q) h refl (any-swap (λ g y. d .carries g y) (settingsAt d s (moveAt moves p) e) (strikesAt d s (moveAt moves q) h) (f .2))) in
+          at-place w p (f .0) (inr (inr (inr (in-row w (λ x. joined (λ y. joined (λ z. Contradictory p x y z ∷ []) (upTo (effectsIn d moves))) (upTo (length moves))) e (effectsIn d moves) sets (in-row w (λ x. joined (λ y. Contradictory p e x y ∷ []) (upTo (effectsIn d moves))) q (length moves) (f .1 .1) (in-row w (λ x. Contradictory p e q x ∷ []) h (effectsIn d moves) strikes (inl refl)))))))
+
+      disturbed : (n p e : ℕ) → StepFault d s moves (Disturbed n p e) → Member (Disturbed n p e) listed
+      disturbed n p e b =
+          let w = Disturbed n p e in
+          let part : e ≤ effectsIn d moves = in-step p e (b .placed) (part-bound d s (after d s (chosen n moves)) (moveAt moves p) e (b .otherwise)) in
+          of-set w n (b .known) (in-row w (λ x. joined (λ y. Disturbed n x y ∷ []) (upTo (effectsIn d moves))) p (length moves) (b .placed .1) (in-row w (λ x. Disturbed n p x ∷ []) e (effectsIn d moves) part (inl refl)))
 
   found : (w : Refusal) → StepFault d s moves w → Member w (kept-by tests listed)
   found w f = kept-member tests w listed (faults-listed w f) (faults-decided w .1 f)

@@ -1,22 +1,21 @@
 -- Places of a list and effects of a move, and what is found at them. Assumes nothing.
 use mathlib.Core.Path.{_≡_, refl, sym, ap, _∙_}
-use mathlib.Core.Bool.{Bool, true, false, _||_, or-comm}
-use mathlib.Core.List.{List, [], _∷_, _++_}
+use mathlib.Core.Bool.{Bool, true}
+use mathlib.Core.List.{List, [], _∷_}
 use mathlib.Core.Logic.{_⊎_, inl, inr}
-use Prim.Native.Nat.{ℕ, zero, suc, _+_, _<_, _≤_}
+use Prim.Native.Nat.{ℕ, zero, suc, _<_, _≤_}
 use native.Mathlib.Omega.{arith}
 use lib.ListN.{length, getD}
 use Rattle.formulas.specs.Formulas.{holds}
 use Rattle.formulas.specs.Formulas.Formula.{all}
 use Rattle.formulas.specs.Formulas.Formulas.{none}
-use Rattle.std.specs.Joined.{joined}
 use Rattle.std.proofs.shelf.Lists.{getD-past}
-use Rattle.std.proofs.shelf.Tests.{cases-bool, cases-lt, or-cases, or-left, or-right, false≢true}
+use Rattle.std.proofs.shelf.Tests.{cases-lt, or-cases, or-left, or-right, false≢true}
 use Rattle.walkthroughs.specs.Depots.{Depot, Effect, State, Listed, effectOf, moveOf, truthOf}
 use Rattle.walkthroughs.specs.Disturbance.{moveAt}
-use Rattle.walkthroughs.specs.Firing.{any, clash, fired, firedBy, fires}
-use Rattle.walkthroughs.specs.Lists.{one, times}
-use Rattle.walkthroughs.proofs.Counts.{any-append, any-at, any-find, any-joined, any-weaker, one-cases, one-is}
+use Rattle.walkthroughs.specs.Firing.{any, fired, firedBy, fires}
+use Rattle.walkthroughs.specs.Lists.{times}
+use Rattle.walkthroughs.proofs.Counts.{any-at, any-find, any-joined, any-weaker, one-cases, one-is}
 use Rattle.walkthroughs.proofs.Firings.{nothing}
 
 pub listed-or-not : (n k : ℕ) → Listed n k ⊎ (Listed n k → ⊥)

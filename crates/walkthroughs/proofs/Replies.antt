@@ -1,14 +1,13 @@
 -- Every list of calls has one run, the computed one; so have the worked lines. Assumes nothing.
 use mathlib.Core.Path.{_≡_, refl, sym, ap, _∙_}
 use mathlib.Core.Bool.{Bool, true, false, cond}
-use mathlib.Core.List.{List, [], _∷_, _++_, map}
+use mathlib.Core.List.{List, [], _∷_, map}
 use Prim.Native.Nat.{ℕ}
-use lib.Dec.{eqb}
 use lib.ListN.{drop, getD, length}
 use Rattle.std.specs.declared.option.Option.{Option}
 use Rattle.std.specs.declared.option.Option.the-variants.{None, Some}
 use Rattle.std.specs.shelf.Lists.{All}
-use Rattle.std.proofs.shelf.Tests.{cond-both, cond-false, cond-true, eqb-true, eq-eqb, true≢false}
+use Rattle.std.proofs.shelf.Tests.{cond-both, cond-false, cond-true, eqb-true, eq-eqb}
 use Rattle.std.proofs.shelf.Ways.{not-from-decides}
 use Rattle.sheets.specs.declared.refusals.Refusal.{Refusal}
 use Rattle.sheets.specs.declared.refusals.Refusal.the-variants.{UnknownNumber}
@@ -16,9 +15,9 @@ use Rattle.facts.specs.declared.plain.PlainFact.{PlainFact}
 use Rattle.facts.specs.Plain.{plainSame}
 use Rattle.facts.specs.Sight.{sightCarries}
 use Rattle.facts.proofs.Carrying.{sightCarries-refl, sightCarries-trans}
-use Rattle.walkthroughs.specs.Depots.{Carrying, Depot, Listed, State, truthOf}
+use Rattle.walkthroughs.specs.Depots.{Carrying, Depot, Listed, truthOf}
 use Rattle.walkthroughs.specs.Examples.{depotG, depotQ, depotS, factsG, factsQ, factsS}
-use Rattle.walkthroughs.specs.Firing.{after, startOf}
+use Rattle.walkthroughs.specs.Firing.{startOf}
 use Rattle.walkthroughs.specs.Judging.{answerOf, answersOf, isListed, judge, leavesOf, leftBy, stepAnswer, stepLeaves}
 use Rattle.walkthroughs.specs.Laws.{Judged, OneRun}
 use Rattle.walkthroughs.specs.Runs.{Answer, Answered, Asked, Call, Held, Ran, begun}

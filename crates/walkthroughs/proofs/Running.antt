@@ -1,23 +1,22 @@
 -- The law of whole runs. Assumes nothing.
-use mathlib.Core.Path.{_≡_, refl, sym, ap, subst, _∙_}
-use mathlib.Core.Bool.{Bool, true, false, not}
+use mathlib.Core.Path.{_≡_, refl, sym, subst, _∙_}
+use mathlib.Core.Bool.{not}
 use mathlib.Core.List.{List, [], _∷_, _++_, map}
 use mathlib.Core.Logic.{inl, inr}
 use Prim.Native.Nat.{ℕ}
 use lib.ListN.{length}
 use Rattle.std.specs.shelf.Lists.{All}
-use Rattle.sheets.specs.declared.refusals.Refusal.{Refusal}
 use Rattle.sheets.specs.declared.refusals.Refusal.the-variants.{Disturbed}
 use Rattle.walkthroughs.specs.Depots.{Depot, State, Carrying, Listed, partOf, reads, truthOf}
 use Rattle.walkthroughs.specs.Disturbance.{moveAt}
 use Rattle.walkthroughs.specs.Firing.{Closed, after, startOf}
 use Rattle.walkthroughs.specs.Laws.{DisturbedStepsTurn, RunsKeepTheLaw, StaysClosed}
 use Rattle.walkthroughs.specs.Lists.{SameMoves}
-use Rattle.walkthroughs.specs.Runs.{Answer, Answered, Call, Held, IsAccepted, Ran, RunLaw, Turned, acceptedSteps, begun}
+use Rattle.walkthroughs.specs.Runs.{Answer, Answered, Call, Held, IsAccepted, Ran, Turned, acceptedSteps, begun}
 use Rattle.walkthroughs.specs.Runs.Answer.{accepted, refused, told}
 use Rattle.walkthroughs.specs.Runs.Call.{look, step, truth}
 use Rattle.walkthroughs.specs.Sets.{chosen}
-use Rattle.walkthroughs.specs.Steps.{Accepted, StepRefused, changed}
+use Rattle.walkthroughs.specs.Steps.{changed}
 use Rattle.walkthroughs.specs.Unpickings.{Passes, singles}
 use Rattle.walkthroughs.proofs.Firings.{closed-after, closed-start}
 use Rattle.walkthroughs.proofs.Places.{listed-or-not, truth-past}

@@ -1,7 +1,7 @@
 -- Sets of places by number, and the moves at them. Assumes nothing.
 use mathlib.Core.Path.{_≡_, refl, sym, ap, _∙_}
-use mathlib.Core.Bool.{Bool, true, false, cond}
-use mathlib.Core.List.{List, [], _∷_, _++_}
+use mathlib.Core.Bool.{false, cond}
+use mathlib.Core.List.{List, [], _∷_}
 use mathlib.Core.Logic.{_⊎_, inl, inr}
 use Prim.Native.Nat.{ℕ, zero, suc, _+_, _-_, _*_, _/_, _%_, _^_, _<_, _≤_}
 use native.Mathlib.Nat.{pow-suc}
@@ -9,11 +9,10 @@ use native.Mathlib.Omega.{arith}
 use lib.Dec.{eqb}
 use lib.ListN.{length, getD}
 use lib.Pow.{pow-pos}
-use Rattle.std.proofs.shelf.Tests.{cases-bool, cases-lt, eqb-true, eqb-false, eq-eqb, ne-eqb, true≢false}
-use Rattle.std.proofs.shelf.Ways.{tells}
+use Rattle.std.proofs.shelf.Tests.{cases-bool, cases-lt, eqb-true, eqb-false, eq-eqb, ne-eqb}
 use Rattle.walkthroughs.specs.Laws.{SetsAreSums}
 use Rattle.walkthroughs.specs.Lists.{one, times, SameMoves, Within}
-use Rattle.walkthroughs.specs.Sets.{digit, inSet, chosen, weightOf}
+use Rattle.walkthroughs.specs.Sets.{digit, chosen, weightOf}
 use Rattle.walkthroughs.proofs.Counts.{one-is, one-cases, take-out}
 
 -- a set with its first place, and one without it

@@ -1,24 +1,20 @@
 -- A step refused as disturbed: its named set can be done, and turns the named part. Assumes nothing.
-use mathlib.Core.Path.{_≡_, refl, sym, ap, _∙_}
-use mathlib.Core.Bool.{Bool, true, false, not}
-use mathlib.Core.List.{List, [], _∷_, _++_}
+use mathlib.Core.Path.{_≡_, refl, ap, _∙_}
+use mathlib.Core.List.{List, [], _∷_}
 use mathlib.Core.Logic.{inl, inr}
-use Prim.Native.Nat.{ℕ, suc, _<_, _≤_, _^_}
+use Prim.Native.Nat.{ℕ, suc, _<_}
 use native.Mathlib.Omega.{arith}
 use lib.ListN.{length}
 use Rattle.std.specs.shelf.Lists.{All}
 use Rattle.std.proofs.shelf.Lists.{nil-from-length}
 use Rattle.std.proofs.shelf.Tests.{cases-lt}
-use Rattle.sheets.specs.declared.refusals.Refusal.{Refusal}
 use Rattle.sheets.specs.declared.refusals.Refusal.the-variants.{Disturbed}
-use Rattle.sheets.specs.Faults.{NoLater}
-use Rattle.sheets.specs.Refusals.{numberOf, rankOf}
 use Rattle.walkthroughs.specs.Depots.{Depot, State, Carrying, reads}
 use Rattle.walkthroughs.specs.Disturbance.{SetDisturbs, moveAt}
 use Rattle.walkthroughs.specs.Firing.{after}
 use Rattle.walkthroughs.specs.Lists.{times, SameMoves, Within}
 use Rattle.walkthroughs.specs.Sets.{chosen}
-use Rattle.walkthroughs.specs.Steps.{Accepted, StepFault, StepRefused}
+use Rattle.walkthroughs.specs.Steps.{Accepted, StepRefused}
 use Rattle.walkthroughs.specs.Unpickings.{Passes, movesOf, singles}
 use Rattle.walkthroughs.proofs.Counts.{length-within}
 use Rattle.walkthroughs.proofs.Disturbing.{Upsetting, alike-unless, beside-disturbs, order-upsets}

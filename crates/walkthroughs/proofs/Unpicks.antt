@@ -1,17 +1,16 @@
 -- An accepted step can be unpicked, and so can a row of accepted steps. Assumes nothing.
-use mathlib.Core.Path.{_≡_, refl, sym, ap, _∙_}
-use mathlib.Core.Bool.{Bool, true, false}
+use mathlib.Core.Path.{_≡_, sym, ap, _∙_}
 use mathlib.Core.List.{List, [], _∷_, _++_}
-use Prim.Native.Nat.{ℕ, _<_, _≤_}
+use Prim.Native.Nat.{ℕ, _<_}
 use native.Mathlib.Omega.{arith}
 use lib.ListN.{length}
 use Rattle.std.specs.shelf.Lists.{All}
 use Rattle.walkthroughs.specs.Depots.{Depot, State, Carrying, reads}
-use Rattle.walkthroughs.specs.Firing.{after, contradictory, oneByOne}
+use Rattle.walkthroughs.specs.Firing.{after, oneByOne}
 use Rattle.walkthroughs.specs.Laws.{UnpickingsPass}
 use Rattle.walkthroughs.specs.Lists.{times, SameMoves, Within}
 use Rattle.walkthroughs.specs.Steps.{Accepted}
-use Rattle.walkthroughs.specs.Unpickings.{Passes, Unpicking, movesOf}
+use Rattle.walkthroughs.specs.Unpickings.{Passes, movesOf}
 use Rattle.walkthroughs.proofs.Counts.{all-from-times, length-within, one-within, times-append}
 use Rattle.walkthroughs.proofs.Firings.{Alike, after-after, after-none, after-order, contradictory-alike, contradictory-within, oneByOne-append}
 use Rattle.walkthroughs.proofs.Walking.{alike-after, steady-within}

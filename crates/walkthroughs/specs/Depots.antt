@@ -4,7 +4,7 @@ use mathlib.Core.Bool.{Bool, true}
 use mathlib.Core.List.{List, [], _∷_}
 use Prim.Native.Nat.{ℕ, zero, suc, _<_, _≤_}
 use lib.ListN.{getD}
-use Rattle.formulas.specs.Formulas.{Formula, Formulas, holds}
+use Rattle.formulas.specs.Formulas.{Formula, holds}
 use Rattle.formulas.specs.Formulas.Formula.{all}
 use Rattle.formulas.specs.Formulas.Formulas.{none}
 

@@ -1,5 +1,5 @@
 -- Depots worked through by hand, with their carrying as their kinds have it. Assumes nothing.
-use mathlib.Core.List.{List, [], _∷_, _++_}
+use mathlib.Core.List.{List, [], _∷_}
 use Prim.Native.Nat.{ℕ, suc}
 use lib.Chars.{codes}
 use lib.ListN.{length}
@@ -10,10 +10,10 @@ use Rattle.facts.specs.declared.plain.PlainFact.{PlainFact}
 use Rattle.facts.specs.declared.sighted.SightFact.{SightFact}
 use Rattle.facts.specs.Plain.{plainReading, plainSame}
 use Rattle.facts.specs.Sight.{sightCarries, sightReading}
-use Rattle.formulas.specs.Formulas.{Formula, Formulas}
+use Rattle.formulas.specs.Formulas.{Formula}
 use Rattle.formulas.specs.Formulas.Formula.{all, fact, neg}
 use Rattle.formulas.specs.Formulas.Formulas.{more, none}
-use Rattle.walkthroughs.specs.Depots.{Depot, Effect, Move}
+use Rattle.walkthroughs.specs.Depots.{Depot, Move}
 use Rattle.walkthroughs.specs.Kinds.{carriesAmong}
 
 -- The facts that texts are.

@@ -4,7 +4,7 @@ use mathlib.Core.Bool.{Bool, true, false, not, cond, _&&_, _||_}
 use mathlib.Core.List.{List, [], _∷_}
 use Prim.Native.Nat.{ℕ}
 use Rattle.std.specs.Joined.{joined}
-use Rattle.walkthroughs.specs.Depots.{Depot, Effect, State, moveOf, truthOf}
+use Rattle.walkthroughs.specs.Depots.{Depot, Effect, State, effectOf, moveOf, truthOf}
 
 -- Some entry of a list passes a test.
 abbrev pub any : {X : Type 0} → (X → Bool) → List X → Bool
@@ -14,6 +14,13 @@ any p (x ∷ xs) = p x || any p xs
 -- What an effect has in one of its two lists, if it fires: if its condition is true at the state.
 abbrev pub fires : Depot → State → (Effect → List ℕ) → Effect → List ℕ
 fires d s list e = cond (truthOf d s (e .condition)) (list e) []
+
+-- What effect e of the move m sets if it fires, and what it strikes.
+abbrev pub settingsAt : Depot → State → ℕ → ℕ → List ℕ
+settingsAt d s m e = fires d s (λ x. x .settings) (effectOf d m e)
+
+abbrev pub strikesAt : Depot → State → ℕ → ℕ → List ℕ
+strikesAt d s m e = fires d s (λ x. x .strikes) (effectOf d m e)
 
 -- What the fired effects of a move have in one of their two lists.
 unfoldable pub firedBy : Depot → State → (Effect → List ℕ) → ℕ → List ℕ

@@ -1,6 +1,5 @@
 -- The answers of a walkthrough, computed: for tables of worked lines. That they are those of the rules is shown as a
 -- theorem. Assumes nothing.
-use mathlib.Core.Path.{_≡_}
 use mathlib.Core.Bool.{Bool, true, false, not, cond, Bool·beq, _&&_, _||_}
 use mathlib.Core.List.{List, [], _∷_, _++_}
 use Prim.Native.Nat.{ℕ, zero, suc, _^_}
@@ -13,10 +12,10 @@ use Rattle.std.specs.shelf.Lists.{kept-by}
 use Rattle.sheets.specs.declared.refusals.Refusal.{Refusal}
 use Rattle.sheets.specs.declared.refusals.Refusal.the-variants.{OverLimit, BadLine, BadLetter, FieldCount, NotItsForm, NotListed, Twice, AlwaysTrue, TableFull, NoGoal, StepSize, UnknownMove, RepeatedMove, NeedFalse, Contradictory, Disturbed, GoalFalse, UnknownNumber, BufferShort, NoMemory}
 use Rattle.sheets.specs.Refusals.{rankOf}
-use Rattle.walkthroughs.specs.Depots.{Depot, State, effectOf, moveOf, reads, truthOf}
+use Rattle.walkthroughs.specs.Depots.{Depot, State, moveOf, needTrue, reads, truthOf}
 use Rattle.walkthroughs.specs.Disturbance.{moveAt}
-use Rattle.walkthroughs.specs.Firing.{after, any, clash, fires}
-use Rattle.walkthroughs.specs.Runs.{Answer, Call, Held}
+use Rattle.walkthroughs.specs.Firing.{after, any, clash, settingsAt, strikesAt}
+use Rattle.walkthroughs.specs.Runs.{Answer, Call}
 use Rattle.walkthroughs.specs.Runs.Answer.{accepted, refused, told}
 use Rattle.walkthroughs.specs.Runs.Call.{look, step, truth}
 use Rattle.walkthroughs.specs.Sets.{chosen, inSet}
@@ -37,8 +36,8 @@ abbrev pub hasFault : (List ℕ → List ℕ → Bool) → (ℕ → Bool) → De
 hasFault clashes tried d s moves StepSize = eqb (length moves) 0 || ltb 8 (length moves)
 hasFault clashes tried d s moves (UnknownMove place) = isListed place (length moves) && not (isListed (moveAt moves place) (length (d .moves)))
 hasFault clashes tried d s moves (RepeatedMove place) = isListed place (length moves) && any (λ before. isListed before (length moves) && (ltb before place && eqb (moveAt moves before) (moveAt moves place))) (upTo (length moves))
-hasFault clashes tried d s moves (NeedFalse place) = isListed place (length moves) && not (reads d s (moveAt moves place) 0)
-hasFault clashes tried d s moves (Contradictory settingPlace settingEffect strikePlace strikeEffect) = isListed settingPlace (length moves) && (isListed strikePlace (length moves) && clashes (fires d s (λ e. e .settings) (effectOf d (moveAt moves settingPlace) settingEffect)) (fires d s (λ e. e .strikes) (effectOf d (moveAt moves strikePlace) strikeEffect)))
+hasFault clashes tried d s moves (NeedFalse place) = isListed place (length moves) && not (needTrue d s (moveAt moves place))
+hasFault clashes tried d s moves (Contradictory settingPlace settingEffect strikePlace strikeEffect) = isListed settingPlace (length moves) && (isListed strikePlace (length moves) && clashes (settingsAt d s (moveAt moves settingPlace) settingEffect) (strikesAt d s (moveAt moves strikePlace) strikeEffect))
 hasFault clashes tried d s moves (Disturbed set place part) = tried set && (ltb set (2 ^ length moves) && (isListed place (length moves) && (not (inSet set place) && not (Bool·beq (reads d (after d s (chosen set moves)) (moveAt moves place) part) (reads d s (moveAt moves place) part)))))
 hasFault clashes tried d s moves OverLimit = false
 hasFault clashes tried d s moves BadLine = false

@@ -1,16 +1,16 @@
 -- When a step is accepted, why it is refused, and what it answers. Assumes nothing.
 use mathlib.Core.Path.{_≡_}
-use mathlib.Core.Bool.{Bool, true, false, cond, Bool·beq}
-use mathlib.Core.List.{List, [], _∷_}
+use mathlib.Core.Bool.{true, false, cond, Bool·beq}
+use mathlib.Core.List.{List}
 use mathlib.Core.Logic.{_⊎_}
 use Prim.Native.Nat.{ℕ, zero, suc, _+_, _<_, _≤_}
 use lib.ListN.{length}
 use Rattle.sheets.specs.declared.refusals.Refusal.{Refusal}
 use Rattle.sheets.specs.declared.refusals.Refusal.the-variants.{OverLimit, BadLine, BadLetter, FieldCount, NotItsForm, NotListed, Twice, AlwaysTrue, TableFull, NoGoal, StepSize, UnknownMove, RepeatedMove, NeedFalse, Contradictory, Disturbed, GoalFalse, UnknownNumber, BufferShort, NoMemory}
 use Rattle.sheets.specs.Faults.{Lowest}
-use Rattle.walkthroughs.specs.Depots.{Depot, State, Listed, effectOf, needTrue}
+use Rattle.walkthroughs.specs.Depots.{Depot, State, Listed, needTrue}
 use Rattle.walkthroughs.specs.Disturbance.{AlikeInEveryOrder, SetDisturbs, moveAt}
-use Rattle.walkthroughs.specs.Firing.{clash, contradictory, fires}
+use Rattle.walkthroughs.specs.Firing.{clash, contradictory, settingsAt, strikesAt}
 use Rattle.walkthroughs.specs.Lists.{times}
 
 -- A step is accepted where it can be done: it has 1 to 8 moves, all listed and none twice, their needs are true, and
@@ -30,7 +30,7 @@ StepFault d s moves StepSize = (length moves ≡ 0) ⊎ (8 < length moves)
 StepFault d s moves (UnknownMove place) = Listed place (length moves) × (Listed (moveAt moves place) (length (d .moves)) → ⊥)
 StepFault d s moves (RepeatedMove place) = Listed place (length moves) × ((before : ℕ) × Listed before (length moves) × (before < place) × (moveAt moves before ≡ moveAt moves place))
 StepFault d s moves (NeedFalse place) = Listed place (length moves) × (needTrue d s (moveAt moves place) ≡ false)
-StepFault d s moves (Contradictory settingPlace settingEffect strikePlace strikeEffect) = Listed settingPlace (length moves) × Listed strikePlace (length moves) × (clash d (fires d s (λ e. e .settings) (effectOf d (moveAt moves settingPlace) settingEffect)) (fires d s (λ e. e .strikes) (effectOf d (moveAt moves strikePlace) strikeEffect)) ≡ true)
+StepFault d s moves (Contradictory settingPlace settingEffect strikePlace strikeEffect) = Listed settingPlace (length moves) × Listed strikePlace (length moves) × (clash d (settingsAt d s (moveAt moves settingPlace) settingEffect) (strikesAt d s (moveAt moves strikePlace) strikeEffect) ≡ true)
 StepFault d s moves (Disturbed set place part) = SetDisturbs d s moves set place part
 StepFault d s moves OverLimit = ⊥
 StepFault d s moves BadLine = ⊥
