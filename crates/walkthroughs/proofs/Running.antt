@@ -1,18 +1,17 @@
 -- The law of whole runs. Assumes nothing.
 use mathlib.Core.Path.{_≡_, refl, sym, subst, _∙_}
 use mathlib.Core.Bool.{not}
-use mathlib.Core.List.{List, [], _∷_, _++_, map}
+use mathlib.Core.List.{List, [], _∷_, _++_}
 use mathlib.Core.Logic.{inl, inr}
 use Prim.Native.Nat.{ℕ}
 use lib.ListN.{length}
-use Rattle.std.specs.shelf.Lists.{All}
 use Rattle.sheets.specs.declared.refusals.Refusal.the-variants.{Disturbed}
 use Rattle.walkthroughs.specs.Depots.{Depot, State, Carrying, Listed, partOf, reads, truthOf}
 use Rattle.walkthroughs.specs.Disturbance.{moveAt}
 use Rattle.walkthroughs.specs.Firing.{Closed, after, startOf}
 use Rattle.walkthroughs.specs.Laws.{DisturbedStepsTurn, RunsKeepTheLaw, StaysClosed}
 use Rattle.walkthroughs.specs.Lists.{SameMoves}
-use Rattle.walkthroughs.specs.Runs.{Answer, Answered, Call, Held, IsAccepted, Ran, Turned, acceptedSteps, begun}
+use Rattle.walkthroughs.specs.Runs.{AllAccepted, Answer, Answered, Call, Held, Ran, Turned, acceptedSteps, begun}
 use Rattle.walkthroughs.specs.Runs.Answer.{accepted, refused, told}
 use Rattle.walkthroughs.specs.Runs.Call.{look, step, truth}
 use Rattle.walkthroughs.specs.Sets.{chosen}
@@ -53,30 +52,23 @@ passes-closed : (d : Depot) → Carrying d → (s t : State) (steps : List (List
 passes-closed d law s t [] closed p = rw p closed
 passes-closed d law s t (moves ∷ steps) closed p = passes-closed d law (after d s moves) t steps (closed-after d law s moves closed) (p .1)
 
--- steps of one move that pass are a run
-pub record Sent (d : Depot) (h : Held) (moves : List ℕ) (t : State) : Type 0 where
-  pub answers : List Answer
-  pub ran : Ran d h (map (λ m. step (m ∷ [])) moves) answers (record { stands = t })
-  pub each : All IsAccepted answers
-
-passes-sent : (d : Depot) (h : Held) (moves : List ℕ) (t : State) → Passes d (h .stands) (singles moves) t → Sent d h moves t
-passes-sent d h [] t p = record { answers = []; ran = p; each = tt }
-passes-sent d h (m ∷ moves) t p = first (passes-sent d (record { stands = after d (h .stands) (m ∷ []) }) moves t (p .1))
+-- steps that pass are a run in which all are accepted
+passes-sent : (d : Depot) (h left : Held) (steps : List (List ℕ)) → Passes d (h .stands) steps (left .stands) → AllAccepted d h steps left
+passes-sent d h left [] p = record { answers = []; ran = p; each = tt }
+passes-sent d h left (moves ∷ steps) p = first (passes-sent d (record { stands = after d (h .stands) moves }) left steps (p .1))
   where
-    first : Sent d (record { stands = after d (h .stands) (m ∷ []) }) moves t → Sent d h (m ∷ moves) t
-    first r = record { answers = accepted (changed (d .facts) (h .stands) (after d (h .stands) (m ∷ []))) ∷ r .answers; ran = (record { stands = after d (h .stands) (m ∷ []) }, (p .0, refl, refl), r .ran); each = (tt, r .each) }
+    first : AllAccepted d (record { stands = after d (h .stands) moves }) steps left → AllAccepted d h (moves ∷ steps) left
+    first r = record { answers = accepted (changed (d .facts) (h .stands) (after d (h .stands) moves)) ∷ r .answers; ran = (record { stands = after d (h .stands) moves }, (p .0, refl, refl), r .ran); each = (tt, r .each) }
 
 -- a formula that turns is listed
 turned-listed : (d : Depot) (s t : State) (n : ℕ) → truthOf d t n ≡ not (truthOf d s n) → Listed n (length (d .formulas))
 turned-listed d s t n other = elim (listed-or-not n (length (d .formulas))) [ inl k ↦ k | inr k ↦ absurd (never-both (truthOf d t n) (truthOf d s n) (truth-past d t n k ∙ sym (truth-past d s n k)) other) ]
 
 pub turned-by : DisturbedStepsTurn
-turned-by d law h moves set place part refusal order same = so (passes-sent d h order (after d (h .stands) (chosen set moves)) (set-passes d law (h .stands) moves set place part refusal order same))
-  where
-    so : Sent d h order (after d (h .stands) (chosen set moves)) → Turned d h order (partOf d (moveAt moves place) part)
-    so r =
-        let listed = turned-listed d (h .stands) (after d (h .stands) (chosen set moves)) (partOf d (moveAt moves place) part) (refusal .holds .otherwise) in
-        record { answers = r .answers; left = record { stands = after d (h .stands) (chosen set moves) }; ran = r .ran; each = r .each; was = reads d (h .stands) (moveAt moves place) part; toldBefore = (listed, refl, refl); toldAfter = (listed, sym (refusal .holds .otherwise), refl) }
+turned-by d law h moves set place part refusal order same =
+    let end : Held = record { stands = after d (h .stands) (chosen set moves) } in
+    let listed = turned-listed d (h .stands) (after d (h .stands) (chosen set moves)) (partOf d (moveAt moves place) part) (refusal .holds .otherwise) in
+    record { left = end; sent = passes-sent d h end (singles order) (set-passes d law (h .stands) moves set place part refusal order same); was = reads d (h .stands) (moveAt moves place) part; toldBefore = (listed, refl, refl); toldAfter = (listed, sym (refusal .holds .otherwise), refl) }
 
 -- the last call of a run, and what was held before it
 last-call : (d : Depot) (h left : Held) (calls : List Call) (answers : List Answer) (c : Call) (a : Answer) → Ran d h (calls ++ c ∷ []) (answers ++ a ∷ []) left → (before next : Held) × Answered d before c a next × (left .stands ≡ next .stands)
@@ -89,7 +81,7 @@ last-call d h left (x ∷ calls) (y ∷ answers) c a (next, this, rest) = last-c
 
 pub runs-keep-the-law : RunsKeepTheLaw
 runs-keep-the-law d law calls answers left ran =
-    record { closed = passes-closed d law (startOf d) (left .stands) (acceptedSteps calls answers) (closed-start d law) passes; unpicked = λ steps u. unpickings-pass d law (startOf d) (left .stands) (acceptedSteps calls answers) steps passes u; turned = turned-so }
+    record { closed = passes-closed d law (startOf d) (left .stands) (acceptedSteps calls answers) (closed-start d law) passes; unpicked = λ steps u. passes-sent d (begun d) left steps (unpickings-pass d law (startOf d) (left .stands) (acceptedSteps calls answers) steps passes u); turned = turned-so }
   where
     passes : Passes d (startOf d) (acceptedSteps calls answers) (left .stands)
     passes = ran-passes d (begun d) calls answers left ran

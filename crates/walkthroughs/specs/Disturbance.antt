@@ -13,8 +13,8 @@ use Rattle.walkthroughs.specs.Sets.{inSet, chosen}
 abbrev pub moveAt : List ℕ → ℕ → ℕ
 moveAt moves place = numbered moves place 0
 
--- Some order of the moves, done one by one, brings a move to its turn with a part that reads otherwise than at the
--- start.
+-- Moves are disturbed (they interfere) by an order: done one by one in it, they bring a move to its turn with a part that
+-- reads otherwise than at the start.
 pub record DisturbedByOrder (d : Depot) (s : State) (moves : List ℕ) : Type 0 where
   pub done : List ℕ
   pub move : ℕ

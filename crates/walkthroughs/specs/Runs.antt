@@ -13,7 +13,7 @@ use Rattle.walkthroughs.specs.Firing.{Closed, after, startOf}
 use Rattle.walkthroughs.specs.Lists.{SameMoves}
 use Rattle.walkthroughs.specs.Sets.{chosen}
 use Rattle.walkthroughs.specs.Steps.{Accepted, StepRefused, changed}
-use Rattle.walkthroughs.specs.Unpickings.{Passes, Unpicking}
+use Rattle.walkthroughs.specs.Unpickings.{Unpicking, singles}
 
 -- What a walkthrough holds: which facts stand.
 pub record Held : Type 0 where
@@ -45,7 +45,7 @@ Answered d h (step moves) (refused w) left = StepRefused d (h .stands) moves w �
 Answered d h (truth n) a left = Asked (length (d .formulas)) n (truthOf d (h .stands) n) h a left
 Answered d h (look f) a left = Asked (d .facts) f (h .stands f) h a left
 
--- A run: calls with their answers, each going on from what those before it left.
+-- A run (an execution): calls with their answers, each going on from what those before it left.
 abbrev pub Ran : Depot → Held → List Call → List Answer → Held → Type 0
 Ran d h [] [] left = left .stands ≡ h .stands
 Ran d h [] (a ∷ answers) left = ⊥
@@ -72,13 +72,17 @@ IsAccepted (accepted changes) = Unit {0}
 IsAccepted (told b) = ⊥
 IsAccepted (refused w) = ⊥
 
+-- Steps, sent in turn to a walkthrough that holds h, are all accepted and leave what `left` holds.
+pub record AllAccepted (d : Depot) (h : Held) (steps : List (List ℕ)) (left : Held) : Type 0 where
+  pub answers : List Answer
+  pub ran : Ran d h (map step steps) answers left
+  pub each : All IsAccepted answers
+
 -- The moves of a list, sent as steps of one move, are all accepted, and after them truth tells the opposite of what it
 -- would have told before them of the formula with a number.
 pub record Turned (d : Depot) (h : Held) (moves : List ℕ) (formula : ℕ) : Type 0 where
-  pub answers : List Answer
   pub left : Held
-  pub ran : Ran d h (map (λ m. step (m ∷ [])) moves) answers left
-  pub each : All IsAccepted answers
+  pub sent : AllAccepted d h (singles moves) left
   pub was : Bool
   pub toldBefore : Answered d h (truth formula) (told was) h
   pub toldAfter : Answered d left (truth formula) (told (not was)) left
@@ -87,8 +91,8 @@ pub record Turned (d : Depot) (h : Held) (moves : List ℕ) (formula : ℕ) : Ty
 pub record RunLaw (d : Depot) (calls : List Call) (answers : List Answer) (left : Held) : Type 0 where
   -- No fact that a standing one carries fails to stand.
   pub closed : Closed d (left .stands)
-  -- Every unpicking of the accepted steps is accepted step by step from the same start, and ends with the same facts.
-  pub unpicked : (steps : List (List ℕ)) → Unpicking (acceptedSteps calls answers) steps → Passes d (startOf d) steps (left .stands)
+  -- Every unpicking of the accepted steps, sent from the same start, has each step accepted and ends with the same facts.
+  pub unpicked : (steps : List (List ℕ)) → Unpicking (acceptedSteps calls answers) steps → AllAccepted d (begun d) steps left
   -- If the last call is a step refused as disturbed, the moves of the named set, sent next as steps of one move in any
   -- order, are accepted, and the named part then reads the other way.
   pub turned : (calls′ : List Call) (answers′ : List Answer) (moves : List ℕ) (set place part : ℕ) → calls ≡ calls′ ++ step moves ∷ [] → answers ≡ answers′ ++ refused (Disturbed set place part) ∷ [] → (order : List ℕ) → SameMoves order (chosen set moves) → Turned d left order (partOf d (moveAt moves place) part)

@@ -19,8 +19,8 @@ Passes d s (moves ∷ steps) t = Accepted d s moves × Passes d (after d s moves
 abbrev pub movesOf : List (List ℕ) → List ℕ
 movesOf steps = joined (λ moves. moves) steps
 
--- An unpicking: in the order of the steps it has, for each, one or more steps of at least one move, which together list
--- every move of it and no other, in any grouping and order.
+-- An unpicking (a serialization): in the order of the steps it has, for each, one or more steps of at least one move,
+-- which together list every move of it as often as it does and no other, in any grouping and order.
 abbrev pub Unpicking : List (List ℕ) → List (List ℕ) → Type 0
 Unpicking [] unpicked = unpicked ≡ []
 Unpicking (moves ∷ steps) unpicked = (groups later : List (List ℕ)) × (unpicked ≡ groups ++ later) × (0 < length groups) × All (λ group. 0 < length group) groups × SameMoves (movesOf groups) moves × Unpicking steps later
