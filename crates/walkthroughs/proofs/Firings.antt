@@ -3,17 +3,17 @@ use mathlib.Core.Path.{_≡_, refl, sym, ap, _∙_, fun-ext}
 use mathlib.Core.Bool.{Bool, true, false, not, cond, _&&_, _||_, and-true}
 use mathlib.Core.List.{List, [], _∷_, _++_}
 use mathlib.Core.Logic.{inl, inr}
-use Prim.Native.Nat.{ℕ, suc}
+use Prim.Native.Nat.{ℕ, suc, _<_}
 use native.Mathlib.Omega.{arith}
 use lib.ListN.{getD}
 use Rattle.std.specs.Joined.{joined}
 use Rattle.std.specs.shelf.Lists.{All}
-use Rattle.std.proofs.shelf.Tests.{cases-bool, true≢false}
+use Rattle.std.proofs.shelf.Tests.{cases-bool, or-left, true≢false}
 use Rattle.walkthroughs.specs.Depots.{Depot, Effect, State, Carrying, moveOf, truthOf, reads}
 use Rattle.walkthroughs.specs.Firing.{any, fires, firedBy, fired, adds, removes, after, clash, contradictory, oneByOne, Closed, startOf}
-use Rattle.walkthroughs.specs.Laws.{GroupsJoin, UnlistedStay}
-use Rattle.walkthroughs.specs.Lists.{SameMoves, Within}
-use Rattle.walkthroughs.proofs.Counts.{any-append, any-joined, any-weaker, any-within, same-bool}
+use Rattle.walkthroughs.specs.Laws.{EffectsTakePlace, GroupsJoin, UnlistedStay}
+use Rattle.walkthroughs.specs.Lists.{SameMoves, Within, times}
+use Rattle.walkthroughs.proofs.Counts.{any-append, any-at, any-joined, any-weaker, any-within, same-bool}
 
 abbrev pub nothing : Effect
 nothing = record { condition = 0; settings = []; strikes = [] }
@@ -118,3 +118,14 @@ unlisted-stay d law s moves f unlisted = rw (never (λ g. d .carries g f) (fired
         any-false : (xs : List ℕ) → any (λ x. false) xs ≡ false
         any-false [] = refl
         any-false (x ∷ xs) = any-false xs
+
+-- started facts stand, set facts stand and struck facts go, since each fact carries itself
+pub effects-take-place : EffectsTakePlace
+unfolding after
+effects-take-place d law = record { start = λ f l there. any-at (λ g. d .carries g f) f (d .started) (law .itself f l) there; setting = λ s moves f l there. or-left (adds d s moves f) (s f && not (removes d s moves f)) (any-at (λ g. d .carries g f) f (fired d s (λ e. e .settings) moves) (law .itself f l) there); strike = λ s moves f l agreed there. gone (adds d s moves f) (s f) (removes d s moves f) (unset s moves f agreed there) (any-at (λ g. d .carries f g) f (fired d s (λ e. e .strikes) moves) (law .itself f l) there) }
+  where
+    gone : (a st r : Bool) → (a ≡ true → ⊥) → r ≡ true → (a || (st && not r)) ≡ false
+    gone a st r never struck = grind arith
+
+    unset : (s : State) (moves : List ℕ) (f : ℕ) → contradictory d s moves ≡ false → 0 < times f (fired d s (λ e. e .strikes) moves) → adds d s moves f ≡ true → ⊥
+    unset s moves f agreed there set = true≢false (sym (any-weaker (λ g. d .carries g f) (λ g. any (λ h. d .carries g h) (fired d s (λ e. e .strikes) moves)) (λ g k. any-at (λ h. d .carries g h) f (fired d s (λ e. e .strikes) moves) k there) (fired d s (λ e. e .settings) moves) set) ∙ agreed)

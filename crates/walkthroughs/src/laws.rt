@@ -1,9 +1,14 @@
 // What holds of every walkthrough, as contracts that the check asks the proof of.
-ghost use Rattle.walkthroughs.specs.Laws.{AcceptedUnlessFault, DisturbedStepsTurn, GroupsJoin, JudgedByTheRules, OneRefusal, OneRun, OrdersAndSetsAgree, RunsKeepTheLaw, SetsAreSums, StaysClosed, UnlistedStay, UnpickingsPass};
+ghost use Rattle.walkthroughs.specs.Laws.{AcceptedUnlessFault, DisturbedStepsTurn, EffectsTakePlace, GroupsJoin, JudgedByTheRules, OneRefusal, OneRun, OrdersAndSetsAgree, RunsKeepTheLaw, SetsAreSums, StaysClosed, UnlistedStay, UnpickingsPass};
 
 // The facts at the start are closed under carrying, and steps keep them so.
 pub fn facts_stay_closed()
     ensures { λ _. ⌜ StaysClosed ⌝ }
+{}
+
+// Started and set facts stand, and struck facts go.
+pub fn effects_take_place()
+    ensures { λ _. ⌜ EffectsTakePlace ⌝ }
 {}
 
 // Facts that are not listed keep their standing.
