@@ -1,0 +1,14 @@
+pub mod Among
+pub mod Counts
+pub mod Disturbing
+pub mod Faulty
+pub mod Firings
+pub mod Judged
+pub mod Lowests
+pub mod Places
+pub mod Replies
+pub mod Running
+pub mod Subsets
+pub mod Turning
+pub mod Unpicks
+pub mod Walking

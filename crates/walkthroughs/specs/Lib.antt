@@ -1,0 +1,14 @@
+pub mod Depots
+pub mod Disturbance
+pub mod Examples
+pub mod Firing
+pub mod Judging
+pub mod Kinds
+pub mod Laws
+pub mod Lists
+pub mod Mistakes
+pub mod Runs
+pub mod Sets
+pub mod Steps
+pub mod Unpickings
+pub mod Worked

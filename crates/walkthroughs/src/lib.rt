@@ -1,0 +1,3 @@
+// Walkthroughs of a depot: the rules of a step, and the law of whole runs.
+pub mod laws;
+pub mod worked;
