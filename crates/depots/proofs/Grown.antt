@@ -1,6 +1,6 @@
 -- A table that a push has made longer, unless memory failed. Assumes nothing.
 use mathlib.Core.Path.{_≡_, sym, ap, subst, _∙_}
-use mathlib.Core.Bool.{Bool, false, cond}
+use mathlib.Core.Bool.{Bool, true, false, cond}
 use mathlib.Core.List.{List, [], _∷_, _++_, map}
 use Prim.Native.Nat.{ℕ, _-_}
 use native.Mathlib.Omega.{arith}
@@ -22,6 +22,11 @@ pushed f xs ys x y (Err e) ok told is same = subst (λ b. When b (map f ys ≡ m
 pub grown : {X T E : Type 0} (xs ys : List X) (x : X) (r : Result T E) → ys ≡ cond (isOk r) (xs ++ x ∷ []) xs → false ≡ isErr r → ys ≡ xs ++ x ∷ []
 grown xs ys x (Ok t) is fine = is
 grown xs ys x (Err e) is fine = absurd (true≢false (sym fine))
+
+-- or left as it was by one that did
+pub not-grown : {X T E : Type 0} (xs ys : List X) (x : X) (r : Result T E) → ys ≡ cond (isOk r) (xs ++ x ∷ []) xs → true ≡ isErr r → ys ≡ xs
+not-grown xs ys x (Ok t) is failed = absurd (true≢false failed)
+not-grown xs ys x (Err e) is failed = is
 
 -- and made as short again by a pop
 pub popped : {X : Type 0} (xs ys zs : List X) (x : X) (n : ℕ) → ys ≡ xs ++ x ∷ [] → n ≡ length ys → zs ≡ take (n - 1) ys → zs ≡ xs

@@ -77,9 +77,9 @@ NumbersIn number ps (Err NotListed) = eachPassesIn (λ text. isListed (number te
 NumbersIn number ps (Err NoMemory) = Unit {0}
 
 -- What a formula over texts comes to. A fact that has not its form, wherever it stands, comes before one that is not
--- listed. Want of memory says nothing of the formula.
+-- listed. Memory can be wanting only once every fact has its form.
 abbrev pub Resolves : (List ℕ → Result ℕ NoFact) → Formula (List ℕ) → Result (Tree ℕ) Unresolved → Type 0
 Resolves number p (Ok t) = Numbered number p (numbers t)
 Resolves number p (Err NotItsForm) = eachPasses (λ text. hasForm (number text)) p ≡ false
 Resolves number p (Err NotListed) = (eachPasses (λ text. hasForm (number text)) p ≡ true) × (eachPasses (λ text. isListed (number text)) p ≡ false)
-Resolves number p (Err NoMemory) = Unit {0}
+Resolves number p (Err NoMemory) = eachPasses (λ text. hasForm (number text)) p ≡ true
