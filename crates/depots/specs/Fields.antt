@@ -1,19 +1,15 @@
 -- How the fields of a line are read, under what the lines above list. Assumes nothing.
-use mathlib.Core.Bool.{Bool, true, false, cond, _||_}
+use mathlib.Core.Bool.{Bool, false, cond, _||_}
 use mathlib.Core.List.{List, [], _∷_}
 use Prim.Native.Nat.{ℕ}
-use lib.Chars.{codes}
-use lib.Dec.{eqb, leb}
-use lib.ListN.{length}
+use lib.Dec.{eqb}
 use Rattle.std.specs.declared.option.Option.{Option}
 use Rattle.std.specs.declared.option.Option.the-variants.{None, Some}
 use Rattle.std.specs.declared.result.Result.{Result}
 use Rattle.std.specs.declared.result.Result.the-variants.{Ok, Err}
 use Rattle.std.specs.Options.{isSome}
-use Rattle.std.specs.shelf.Text.{sameBytes}
 use Rattle.sheets.specs.Listed.{placeOf, firstFrom}
 use Rattle.sheets.specs.Names.{isName}
-use Rattle.sheets.specs.Pieces.{pieces}
 use Rattle.facts.specs.declared.names.NoFact.{NoFact}
 use Rattle.facts.specs.declared.names.NoFact.the-variants as none
 use Rattle.depots.specs.declared.troubles.Trouble.{Trouble}

@@ -2,7 +2,7 @@
 use mathlib.Core.Bool.{Bool, true, not, _&&_}
 
 mutual
-  -- A formula (the condition of an action) over facts, which are texts on a sheet and numbers in a depot: a fact, the
+  -- A formula (a need, a condition or the goal) over facts, which are texts on a sheet and numbers in a depot: a fact, the
   -- opposite of a formula, or all of some formulas.
   pub data Formula (F : Type 0) : Type 0 where
     fact : F → Formula F

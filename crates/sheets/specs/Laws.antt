@@ -28,6 +28,7 @@ pub record Split (s : List ℕ) (ls : List Line) : Type 0 where
   pub single : All (λ l. Lacks lineEnd (l .text)) ls
   pub ends : EndsInOrder ls
 
+-- Every sheet is so split.
 abbrev pub LinesSplit : Type 0
 LinesSplit = (s : List ℕ) → Split s (linesOf s)
 

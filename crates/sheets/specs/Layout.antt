@@ -3,7 +3,7 @@ use mathlib.Core.Path.{_≡_}
 use mathlib.Core.Bool.{Bool, false, _&&_, _||_}
 use mathlib.Core.List.{List, [], _∷_}
 use mathlib.Core.Logic.{_⊎_}
-use Prim.Native.Nat.{ℕ, _<_}
+use Prim.Native.Nat.{ℕ}
 use lib.Chars.{codes}
 use lib.Dec.{eqb, leb}
 use lib.ListN.{length, getD}
@@ -21,10 +21,11 @@ use Rattle.sheets.specs.Letters.{letterOf, fieldsOf, MayCome}
 use Rattle.sheets.specs.Lines.{Line}
 use Rattle.sheets.specs.Pieces.{pieces}
 
--- The most bytes of a depot sheet, and of a line before its end.
+-- The most bytes of a depot sheet.
 abbrev pub depotLimit : ℕ
 depotLimit = 32768
 
+-- The most bytes of a line, before its end.
 abbrev pub lineLimit : ℕ
 lineLimit = 240
 
@@ -61,7 +62,7 @@ lastLetter (l ∷ m ∷ ls) = lastLetter (m ∷ ls)
 abbrev pub saysSight : Line → Bool
 saysSight l = sameBytes (l .text) (codes "K\tsight")
 
--- A sheet is of the sight kind if one of its lines says so.
+-- A sheet is of the sight kind if one of its lines says so. Only the first can, since the kind is named nowhere else.
 abbrev pub isSight : List Line → Bool
 isSight [] = false
 isSight (l ∷ ls) = saysSight l || isSight ls

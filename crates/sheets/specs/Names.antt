@@ -16,6 +16,6 @@ nameByte b = (leb 97 b && leb b 122) || (leb 48 b && leb b 57)
 abbrev pub isAll : List ℕ → Bool
 isAll text = sameBytes text (codes "all")
 
--- A name has 1 to 8 bytes, and is not the word for every zone.
+-- A name has 1 to 8 bytes, each a to z or 0 to 9, and is not the word for every zone.
 abbrev pub isName : List ℕ → Bool
 isName text = leb 1 (length text) && leb (length text) 8 && every nameByte text && not (isAll text)

@@ -19,7 +19,8 @@ pub struct Fault {
 }
 
 impl Fault {
-    // A refusal of a line of a sheet, or of the whole sheet, told at line 0.
+    // A refusal that speaks of a sheet, with the line at which it is told: the whole sheet is told at line 0 where it is
+    // too large.
     pub fn on(sheet: Sheet, line: usize, refusal: Refusal) -> Fault
         ensures sheet { λ r. ⌜ r .sheet ≡ Some sheet ⌝ }
         ensures line { λ r. ⌜ r .line ≡ line ⌝ }

@@ -1,4 +1,4 @@
-// Why a call says no. The promises about numbers and details go by `number` and `details` of specs/Refusals.
+// Why a call says no. The promises about numbers and details go by `numberOf` and `detailsOf` of specs/Refusals.
 ghost use mathlib.Core.Path.{_≡_};
 ghost use Rattle.sheets.specs.Refusals.{numberOf, detailsOf};
 

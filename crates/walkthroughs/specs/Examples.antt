@@ -21,10 +21,11 @@ abbrev readAll : {F : Type 0} → (List ℕ → Result F NoFact) → List (List 
 readAll reading [] = []
 readAll reading (t ∷ texts) = elim (reading t) [ Ok f ↦ f ∷ readAll reading texts | Err why ↦ readAll reading texts ]
 
--- True, and both of two facts.
+-- A formula that is true.
 abbrev always : Formula ℕ
 always = all none
 
+-- Both of two facts.
 abbrev both : ℕ → ℕ → Formula ℕ
 both f g = all (more (fact f) (more (fact g) none))
 

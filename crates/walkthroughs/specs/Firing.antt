@@ -15,10 +15,11 @@ any p (x ∷ xs) = p x || any p xs
 abbrev pub fires : Depot → State → (Effect → List ℕ) → Effect → List ℕ
 fires d s list e = cond (truthOf d s (e .condition)) (list e) []
 
--- What effect e of the move m sets if it fires, and what it strikes.
+-- What effect e of the move m sets if it fires.
 abbrev pub settingsAt : Depot → State → ℕ → ℕ → List ℕ
 settingsAt d s m e = fires d s (λ x. x .settings) (effectOf d m e)
 
+-- What it strikes if it fires.
 abbrev pub strikesAt : Depot → State → ℕ → ℕ → List ℕ
 strikesAt d s m e = fires d s (λ x. x .strikes) (effectOf d m e)
 

@@ -87,31 +87,34 @@ judgeBy clashes tried d s moves = lowestOf (kept-by (hasFault clashes tried d s 
 abbrev pub judge : Depot → State → List ℕ → Option Refusal
 judge d = judgeBy (clash d) (λ set. true) d
 
--- What a judged step answers, and what it leaves.
+-- What a judged step answers.
 abbrev pub stepAnswer : Depot → State → List ℕ → Option Refusal → Answer
 stepAnswer d s moves None = accepted (changed (d .facts) s (after d s moves))
 stepAnswer d s moves (Some w) = refused w
 
+-- What a judged step leaves.
 abbrev pub stepLeaves : Depot → State → List ℕ → Option Refusal → State
 stepLeaves d s moves None = after d s moves
 stepLeaves d s moves (Some w) = s
 
--- What a call answers, and what it leaves.
+-- What a call answers.
 abbrev pub answerOf : Depot → State → Call → Answer
 answerOf d s (step moves) = stepAnswer d s moves (judge d s moves)
 answerOf d s (truth n) = cond (isListed n (length (d .formulas))) (told (truthOf d s n)) (refused UnknownNumber)
 answerOf d s (look f) = cond (isListed f (d .facts)) (told (s f)) (refused UnknownNumber)
 
+-- What a call leaves.
 abbrev pub leavesOf : Depot → State → Call → State
 leavesOf d s (step moves) = stepLeaves d s moves (judge d s moves)
 leavesOf d s (truth n) = s
 leavesOf d s (look f) = s
 
--- What calls answer in turn, and what they leave.
+-- What calls answer in turn.
 abbrev pub answersOf : Depot → State → List Call → List Answer
 answersOf d s [] = []
 answersOf d s (c ∷ calls) = answerOf d s c ∷ answersOf d (leavesOf d s c) calls
 
+-- What calls leave in the end.
 abbrev pub leftBy : Depot → State → List Call → State
 leftBy d s [] = s
 leftBy d s (c ∷ calls) = leftBy d (leavesOf d s c) calls

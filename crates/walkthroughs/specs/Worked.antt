@@ -25,6 +25,7 @@ abbrev pub numbersFrom : ℕ → ℕ → List ℕ
 numbersFrom n zero = []
 numbersFrom n (suc k) = n ∷ numbersFrom (suc n) k
 
+-- The worked lines of the depots S, Q and G.
 abbrev pub table : List Row
 table =
     record { depot = depotS; calls = step (1 ∷ []) ∷ []; answers = accepted 1 ∷ []; standing = 1 ∷ 2 ∷ 3 ∷ [] }
@@ -40,10 +41,11 @@ table =
     ∷ record { depot = depotG; calls = step (1 ∷ 2 ∷ []) ∷ step (1 ∷ []) ∷ step (2 ∷ []) ∷ []; answers = refused (Disturbed 1 2 1) ∷ accepted 1 ∷ accepted 1 ∷ []; standing = 1 ∷ 2 ∷ 3 ∷ [] }
     ∷ []
 
--- What a line comes to, and what it should.
+-- What a line comes to: its answers, and the facts that stand at the end.
 abbrev pub outcome : Row → List Answer × List ℕ
 outcome r = (answersOf (r .depot) (startOf (r .depot)) (r .calls), kept-by (leftBy (r .depot) (startOf (r .depot)) (r .calls)) (numbersFrom 1 (r .depot .facts)))
 
+-- What it should come to.
 abbrev pub expected : Row → List Answer × List ℕ
 expected r = (r .answers, r .standing)
 
@@ -51,9 +53,10 @@ expected r = (r .answers, r .standing)
 abbrev pub Worked : Type 0
 Worked = map outcome table ≡ map expected table
 
--- Every line is a run by the rules.
+-- A line is a run by the rules.
 abbrev pub IsRun : Row → Type 0
 IsRun r = (left : Held) × Ran (r .depot) (begun (r .depot)) (r .calls) (r .answers) left × (kept-by (left .stands) (numbersFrom 1 (r .depot .facts)) ≡ r .standing)
 
+-- Every line is one.
 abbrev pub WorkedRuns : Type 0
 WorkedRuns = All IsRun table

@@ -9,5 +9,4 @@ use facts::kinds::Kind;
 // Carrying among listed facts of a kind, by number, is what the law asks of carrying, whatever the kind.
 pub fn kinds_carry_as_the_law_asks<K: Kind>()
     ensures { λ _. ⌜ ((facts : List K·Fact) (d : Depot) → d .facts ≡ length facts → d .carries ≡ carriesAmong carrying facts → Carrying d) ⌝ }
-{
-}
+{}
