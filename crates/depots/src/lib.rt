@@ -1,4 +1,6 @@
 // A depot, as it is read from its sheet.
+#![tactic(auto)]
+
 pub mod entries;
 pub mod fact_list;
 pub mod fields;

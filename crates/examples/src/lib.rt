@@ -1,4 +1,6 @@
 // Sheets with the verdicts that the rules give them, worked out by hand.
+#![tactic(auto)]
+
 #[cfg(test)]
 mod fact_fields;
 #[cfg(test)]

@@ -1,4 +1,6 @@
 // Facts and their kinds: how a fact is read, which facts are the same, which carries which, which are always true.
+#![tactic(auto)]
+
 pub mod kinds;
 pub mod listed;
 pub mod meaning;

@@ -1,4 +1,6 @@
 // The program: the two sheets of the folder it is run in, and the report on standard output.
+#![tactic(auto)]
+
 use reports::layout_report::layout_report;
 use sheets::layout::DEPOT_LIMIT;
 use std::fs::File;

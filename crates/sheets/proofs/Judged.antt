@@ -1,10 +1,10 @@
 -- What the judgement of a line tells of its faults. Assumes nothing.
-use Rattle.std.proofs.Common.{◌≡◌, ℕ, ◌<◌, Bool, true, false, cond, ◌||◌, eqb, ◌⊎◌, List, [], ◌∷◌, length, Some, None, Option, sym, refl, ap, ◌∙◌, subst, inl, inr, ⊎_elim, arith, rules}
+use Rattle.std.proofs.Common.{◌≡◌, ℕ, Bool, true, false, ◌||◌, eqb, List, [], ◌∷◌, length, Some, None, Option, sym, refl, ap, ◌∙◌, subst, inl, inr, ⊎_elim, arith}
 use Rattle.std.proofs.lemmas.Bool.{cases_Bool, cond-true, cond-false, eqb-true, eqb-false, both_ways}
 use Rattle.sheets.specs.declared.layout.Above.{Above}
 use Rattle.sheets.specs.declared.letters.Letter.{Letter}
 use Rattle.sheets.specs.declared.refusals.Refusal.{Refusal}
-use Rattle.sheets.specs.declared.refusals.Refusal.TheVariants.{BadLine, BadLetter, FieldCount}
+use Rattle.sheets.specs.declared.refusals.Refusal.TheVariants.{FieldCount}
 use Rattle.sheets.specs.Faults.{NoLater, Lowest}
 use Rattle.sheets.specs.Layout.{fields, legible, letter_on, LayoutFault, after, says_sight}
 use Rattle.sheets.specs.Letters.{fields_of, may_come, MayCome, permitted}

@@ -1,5 +1,5 @@
 -- A walk over the lines of a depot sheet, which judges the layout of each. Assumes nothing.
-use Rattle.std.proofs.Common.{◌≡◌, ℕ, zero, ◌+◌, ◌<◌, ◌≤◌, Bool, true, false, ◌||◌, ◌⊎◌, List, [], ◌∷◌, ◌++◌, length, take, drop, Some, sym, refl, ap, ◌∙◌, subst, inl, inr, arith, length-drop}
+use Rattle.std.proofs.Common.{◌≡◌, ℕ, ◌+◌, ◌<◌, ◌≤◌, Bool, true, false, ◌||◌, List, [], ◌∷◌, ◌++◌, length, take, drop, Some, sym, refl, ap, ◌∙◌, subst, inl, inr, arith, length-drop}
 use Rattle.std.proofs.lemmas.List.{take_all}
 use Rattle.sheets.specs.declared.faults.Fault.{Fault}
 use Rattle.sheets.specs.declared.faults.Sheet.TheVariants.{Depot}
@@ -12,7 +12,7 @@ use Rattle.sheets.specs.Layout.{depot_limit, letter_on, says_sight, last_letter,
 use Rattle.sheets.specs.Lines.{Line, lines_of}
 use Rattle.sheets.specs.Refusals.{rank_of}
 use Rattle.sheets.proofs.Places.{nth_here, drop-next, take_next, nth_within}
-use Rattle.sheets.proofs.Sheetwise.{Late, Clear, clear_none, clear-more, over-limit, line_refused, end_refused, end-right}
+use Rattle.sheets.proofs.Sheetwise.{Late, Clear, clear_none, clear-more, line_refused, end_refused, end-right}
 
 -- what is wrong with a line, below the lines above it
 abbrev pub Wrong : List Line → Line → Refusal → Type 0

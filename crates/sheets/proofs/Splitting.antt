@@ -1,10 +1,10 @@
 -- The lines of a sheet are the sheet, cut at its line ends. Assumes nothing.
-use Rattle.std.proofs.Common.{◌≡◌, ℕ, zero, suc, ◌<◌, Bool, true, false, cond, eqb, List, [], ◌∷◌, ◌++◌, length, get_or, sym, refl, ap, ◌∙◌, subst, append_assoc, append-nil, arith}
+use Rattle.std.proofs.Common.{◌≡◌, ℕ, zero, suc, true, eqb, List, [], ◌∷◌, ◌++◌, refl, ap, ◌∙◌, append_assoc, append-nil, arith}
 use Rattle.std.specs.List.{flat_map, join_with_byte, AllByRecursion as All}
 use Rattle.std.specs.Str.Iter.{LacksByte}
 use Rattle.std.proofs.lemmas.Bool.{cond_both, eqb-false}
-use Rattle.sheets.specs.Laws.{as_written, EndsInOrder, Split, LinesSplit}
-use Rattle.sheets.specs.Lines.{Line, line_end, unfinished, as_lines, lines_of}
+use Rattle.sheets.specs.Laws.{as_written, EndsInOrder, LinesSplit}
+use Rattle.sheets.specs.Lines.{Line, line_end, as_lines}
 use Rattle.sheets.specs.Pieces.{pieces, longer}
 use Rattle.sheets.proofs.Cuts.{rejoined_pieces}
 

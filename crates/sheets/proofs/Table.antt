@@ -1,5 +1,5 @@
 -- The table of letters says what the words say. Assumes nothing.
-use Rattle.std.proofs.Common.{◌≡◌, Bool, Decides, Option, rules}
+use Rattle.std.proofs.Common.{Bool, Decides, Option, rules}
 use Rattle.sheets.specs.declared.letters.Letter.{Letter}
 use Rattle.sheets.specs.Letters.{may_come, MayCome}
 

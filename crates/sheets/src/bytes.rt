@@ -13,7 +13,7 @@ pub trait ByteTest {
 
 // Whether every byte of a text passes.
 pub fn all_pass<T: ByteTest>(text: &[u8]) -> bool
-    ensures { result ≡ every passing text.now }
+    ensures { result ≡ every T.passing text.now }
 {
     for b in text {
         if !T::passes(*b) {

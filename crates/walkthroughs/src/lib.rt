@@ -1,4 +1,6 @@
 // Walkthroughs of a depot: the rules of a step, and the law of whole runs.
+#![tactic(auto)]
+
 pub mod kinds;
 pub mod laws;
 pub mod worked;

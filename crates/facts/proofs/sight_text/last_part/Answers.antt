@@ -15,4 +15,4 @@ loop-rest-preserved c =
     sym (last_more c.loop-rest.part.now _ _ _ c.cut-in-Some.ensures.parts) ∙ here
 
 pub returns : goal.returns
-returns c = rw c.in-default.is at c.loop-rest.invariant
+returns c = rw c.in_default.is at c.loop-rest.invariant

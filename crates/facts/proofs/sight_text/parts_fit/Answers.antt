@@ -13,12 +13,12 @@ loop-rest-smaller c = uncut-less (λ x. x.now) c.loop-rest.rest c.cut-in-Some.re
 pub loop-rest-preserved : goal.loop-rest-preserved
 loop-rest-preserved c =
     let here = rw c.in-Some.is at c.loop-rest.invariant in
-    sym (fitting-more c.loop-rest.part.now _ _ _ c.cut-in-Some.ensures.parts (sym c.if-not-is-watcher.ensures)) ∙ here
+    sym (fitting-more c.loop-rest.part.now _ _ _ c.cut-in-Some.ensures.parts (sym c.if-not-is_watcher.ensures)) ∙ here
 
-pub returns-then-not-is-watcher : goal.returns-then-not-is-watcher
-returns-then-not-is-watcher c =
+pub returns-then-not-is_watcher : goal.returns-then-not-is_watcher
+returns-then-not-is_watcher c =
     let here = rw c.in-Some.is at c.loop-rest.invariant in
-    sym (fitting-fails c.loop-rest.part.now _ (some-piece 46 c.in-Some.after.now) (sym c.if-not-is-watcher.ensures)) ∙ here
+    sym (fitting-fails c.loop-rest.part.now _ (some-piece 46 c.in-Some.after.now) (sym c.if-not-is_watcher.ensures)) ∙ here
 
 pub returns : goal.returns
-returns c = c.is-name.ensures ∙ (rw c.in-default.is at c.loop-rest.invariant)
+returns c = c.is_name.ensures ∙ (rw c.in_default.is at c.loop-rest.invariant)

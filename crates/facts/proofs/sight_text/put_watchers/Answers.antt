@@ -15,16 +15,16 @@ pub loop-rest-preserved : goal.loop-rest-preserved
 loop-rest-preserved c =
     let here = rw c.in-Some.is at c.loop-rest.invariant in
     let five : length c.args.row.now ≡ 5 = omega arith in
-    put-more (map text_of c.args.zones.now) (parts_of c.args.text.now) c.args.row.now c.loop-rest.row c.loop-rest.count c.loop-rest.part.now _ _ _ c.in-ok-row.field-0 five c.cut-in-Some.ensures.parts c.in-ok-row.ensures here
+    put-more (map text_of c.args.zones.now) (parts_of c.args.text.now) c.args.row.now c.loop-rest.row c.loop-rest.count c.loop-rest.part.now _ _ _ c.in_ok-row.field-0 five c.cut-in-Some.ensures.parts c.in_ok-row.ensures here
 
-pub returns-in-err-row : goal.returns-in-err-row
-returns-in-err-row c =
+pub returns-in_err-row : goal.returns-in_err-row
+returns-in_err-row c =
     let here = rw c.in-Some.is at c.loop-rest.invariant in
-    rw c.from-residual.ensures (put-fails (map text_of c.args.zones.now) (parts_of c.args.text.now) c.args.row.now c.loop-rest.row c.loop-rest.count c.loop-rest.part.now _ (some-piece 46 c.in-Some.after.now) c.in-err-row.ensures here)
+    rw c.from_residual.ensures (put-fails (map text_of c.args.zones.now) (parts_of c.args.text.now) c.args.row.now c.loop-rest.row c.loop-rest.count c.loop-rest.part.now _ (some-piece 46 c.in-Some.after.now) c.in_err-row.ensures here)
 
 pub returns : goal.returns
 returns c =
-    let here = rw c.in-default.is at c.loop-rest.invariant in
+    let here = rw c.in_default.is at c.loop-rest.invariant in
     put_all (map text_of c.args.zones.now) (parts_of c.args.text.now) c.args.row.now c.loop-rest.row c.loop-rest.count c.loop-rest.part.now here
 
 pub bounds-row-count : goal.bounds-row-count

@@ -4,15 +4,15 @@ use Rattle.std.proofs.lemmas.Bool.{cond-true, cond-false}
 use Rattle.formulas.specs.Marks.{run}
 use Rattle.formulas.proofs.marks.before_mark.Goals as goal
 
-pub returns-then-is-mark : goal.returns-then-is-mark
-returns-then-is-mark c = record {
-  value = omega (arith, c.loop-i.invariant, at_drop_more run c.args.text.now c.loop-i.i 0 c.loop-i-test.true ∙ cond-true _ _ _ (sym c.if-is-mark.ensures));
+pub returns-then-is_mark : goal.returns-then-is_mark
+returns-then-is_mark c = record {
+  value = omega (arith, c.loop-i.invariant, at_drop_more run c.args.text.now c.loop-i.i 0 c.loop-i-test.true ∙ cond-true _ _ _ (sym c.if-is_mark.ensures));
   within = omega arith;
 }
 
 pub loop-i-preserved : goal.loop-i-preserved
 loop-i-preserved c =
-    omega (arith, c.loop-i.invariant, at_drop_more run c.args.text.now c.loop-i.i 0 c.loop-i-test.true ∙ cond-false _ _ _ (sym c.if-is-mark.ensures))
+    omega (arith, c.loop-i.invariant, at_drop_more run c.args.text.now c.loop-i.i 0 c.loop-i-test.true ∙ cond-false _ _ _ (sym c.if-is_mark.ensures))
 
 pub returns : goal.returns
 returns c = record {

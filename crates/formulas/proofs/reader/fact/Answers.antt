@@ -5,8 +5,8 @@ use Rattle.formulas.proofs.Steps.{fact_here, no_fact_here}
 use Rattle.formulas.proofs.reader.fact.Goals as goal
 
 pub returns-then-n-eq0 : goal.returns-then-n-eq0
-returns-then-n-eq0 c = no_fact_here c.args.text.now (sym c.before-mark-n.ensures.value ∙ c.if-n-eq0.true)
+returns-then-n-eq0 c = no_fact_here c.args.text.now (sym c.before_mark-n.ensures.value ∙ c.if-n-eq0.true)
 
 pub returns : goal.returns
 returns c =
-    rw (take_rest c.args.text.now c.before-mark-n.result, sub-zero, c.before-mark-n.ensures.value) (fact_here c.args.text.now (λ e. c.if-n-eq0.false (c.before-mark-n.ensures.value ∙ e)))
+    rw (take_rest c.args.text.now c.before_mark-n.result, sub-zero, c.before_mark-n.ensures.value) (fact_here c.args.text.now (λ e. c.if-n-eq0.false (c.before_mark-n.ensures.value ∙ e)))

@@ -5,4 +5,4 @@ use Rattle.reports.proofs.depot_report.read_report.Goals as goal
 
 pub returns : goal.returns
 returns c =
-    after_two (vec_items c.in-ok-report.report) (vec_items c.extend-from-slice.new.self) notice (inventory_text c.args.inventory) (c.in-ok-report.ensures.items ∙ c.as-bytes.ensures.value) (c.in-ok-extend-from-slice.ensures.items ∙ ap (λ x. vec_items c.in-ok-report.report ++ x) (c.as-bytes-2.ensures.value ∙ c.in-ok-text.ensures))
+    after_two (vec_items c.in_ok-report.report) (vec_items c.extend_from_slice.new.self) notice (inventory_text c.args.inventory) (c.in_ok-report.ensures.items ∙ c.as_bytes.ensures.value) (c.in_ok-extend_from_slice.ensures.items ∙ ap (λ x. vec_items c.in_ok-report.report ++ x) (c.as_bytes-2.ensures.value ∙ c.in_ok-text.ensures))

@@ -7,7 +7,7 @@ use Rattle.sheets.proofs.pieces.cut.Goals as goal
 
 pub returns-then-n-text : goal.returns-then-n-text
 returns-then-n-text c =
-    let at = c.before-mark-n.ensures in
+    let at = c.before_mark-n.ensures in
     let within : unmarked c.args.mark c.args.text.now < length c.args.text.now = omega arith in
     record {
       parts = simp (take_rest, sub-zero, add-one, at) (pieces-at_mark _ _ within);

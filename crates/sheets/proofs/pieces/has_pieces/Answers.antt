@@ -8,10 +8,10 @@ use Rattle.sheets.proofs.pieces.has_pieces.Goals as goal
 pub returns-then-n-eq0 : goal.returns-then-n-eq0
 returns-then-n-eq0 c = let some = some-piece c.args.mark c.args.text.now in grind (arith, nat_tests)
 
-pub returns-then-is-none : goal.returns-then-is-none
-returns-then-is-none c =
-    uncounted (λ x. x.now) (pieces c.args.mark c.args.text.now) c.args.n c.piece.result (omega arith) c.piece.ensures c.if-is-none.ensures
+pub returns-then-is_none : goal.returns-then-is_none
+returns-then-is_none c =
+    uncounted (λ x. x.now) (pieces c.args.mark c.args.text.now) c.args.n c.piece.result (omega arith) c.piece.ensures c.if-is_none.ensures
 
 pub returns : goal.returns
 returns c =
-    counted (λ x. x.now) (pieces c.args.mark c.args.text.now) c.args.n c.piece.result (omega arith) c.piece.ensures c.has-at-most.result c.if-is-none.ensures c.has-at-most.ensures
+    counted (λ x. x.now) (pieces c.args.mark c.args.text.now) c.args.n c.piece.result (omega arith) c.piece.ensures c.has_at_most.result c.if-is_none.ensures c.has_at_most.ensures

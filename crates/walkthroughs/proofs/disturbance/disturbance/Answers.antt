@@ -11,15 +11,15 @@ loop-set-init g c = sets-none (ruled g.K.Kind.carrying (tables_of c.args.depot.n
 
 pub returns-in-Some : goal.returns-in-Some
 returns-in-Some g c =
-    let left = c.after-set-after.ensures in
+    let left = c.after_set-after.ensures in
     let after = left.2 ∙ after-chosen (ruled g.K.Kind.carrying (tables_of c.args.depot.now)) c.args.start.now c.args.moves.now c.args.outcomes.now c.loop-set.set left.0 c.requires.outcomes left.1 in
-    set_found (ruled g.K.Kind.carrying (tables_of c.args.depot.now)) (stands_in c.args.start.now) c.args.moves.now c.loop-set.set ? (stands_in c.after-set-after.result) after c.in-Some.place c.in-Some.part c.loop-set.invariant c.in-Some.ensures
+    set_found (ruled g.K.Kind.carrying (tables_of c.args.depot.now)) (stands_in c.args.start.now) c.args.moves.now c.loop-set.set ? (stands_in c.after_set-after.result) after c.in-Some.place c.in-Some.part c.loop-set.invariant c.in-Some.ensures
 
 pub loop-set-preserved : goal.loop-set-preserved
 loop-set-preserved g c =
-    let left = c.after-set-after.ensures in
+    let left = c.after_set-after.ensures in
     let after = left.2 ∙ after-chosen (ruled g.K.Kind.carrying (tables_of c.args.depot.now)) c.args.start.now c.args.moves.now c.args.outcomes.now c.loop-set.set left.0 c.requires.outcomes left.1 in
-    sets_more (ruled g.K.Kind.carrying (tables_of c.args.depot.now)) (stands_in c.args.start.now) c.args.moves.now c.loop-set.set ? (stands_in c.after-set-after.result) after c.loop-set.invariant c.in-default.ensures
+    sets_more (ruled g.K.Kind.carrying (tables_of c.args.depot.now)) (stands_in c.args.start.now) c.args.moves.now c.loop-set.set ? (stands_in c.after_set-after.result) after c.loop-set.invariant c.in_default.ensures
 
 pub returns : goal.returns
 returns g c = no_set (ruled g.K.Kind.carrying (tables_of c.args.depot.now)) (stands_in c.args.start.now) c.args.moves.now c.loop-set.set (let h = c.loop-set-test.false in ?) c.loop-set.invariant

@@ -20,10 +20,10 @@ returns g c =
     let last = c.max-end.result in
     let count = sym (length-map shown effect_of) ∙ ap length c.effects-effects.ensures in
     let is-first : first ≡ min before (length t.effects) = c.min-first.ensures ∙ ap (min before) count in
-    let is_last : last ≡ max (min c.effects-end.result (length t.effects)) first = c.max-end.ensures ∙ ap (λ n. max n first) (c.min.ensures ∙ ap (min c.effects-end.result) count) in
+    let is_last : last ≡ max (min c.effects_end.result (length t.effects)) first = c.max-end.ensures ∙ ap (λ n. max n first) (c.min.ensures ∙ ap (min c.effects_end.result) count) in
     map-part effect_of shown (last - first) first
     ∙ ap (λ l. take (last - first) (drop first l)) c.effects-effects.ensures
-    ∙ cut_capped t.effects before c.effects-end.result first last is-first is_last
-    ∙ ap (λ e. take (e - before) (drop before t.effects)) c.effects-end.ensures
+    ∙ cut_capped t.effects before c.effects_end.result first last is-first is_last
+    ∙ ap (λ e. take (e - before) (drop before t.effects)) c.effects_end.ensures
     ∙ at-number (λ n. take (end_of t.moves (length t.effects) n - before) (drop before t.effects) ≡ effects_of t.moves t.effects n) c.args.number c.if-number-eq0.false
     (own_at (vec_items kept) t.effects (c.args.number - 1) c.index.result.now (omega (arith, kept.ok.0, c.len-count.ensures)) c.index.ensures)

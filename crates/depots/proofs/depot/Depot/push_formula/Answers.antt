@@ -8,5 +8,5 @@ use Rattle.depots.proofs.depot.Depot.push_formula.Goals as goal
 pub returns : goal.returns
 returns g c =
     let before = vec_items c.args.self.now.formulas in
-    let longer = grown before (vec_items c.push.new.self) c.args.new.formula c.push.result c.push.ensures.items c.if-is-err.ensures.value in
+    let longer = grown before (vec_items c.push.new.self) c.args.new.formula c.push.result c.push.ensures.items c.if-is_err.ensures.value in
     ap (λ x. with_formulas (tables_of c.args.self.now) x c.args.new.total) (mapped_push numbers before _ _ longer)

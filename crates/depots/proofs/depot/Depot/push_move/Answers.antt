@@ -11,8 +11,8 @@ returns g c =
     let t = tables_of c.args.self.now in
     let before = vec_items c.args.self.now.moves in
     let after = vec_items c.push.new.self in
-    let longer = grown before after (record { goal = c.len.result; effects_before = length c.effects.result.now }) c.push.result c.push.ensures.items c.if-is-err.ensures.value in
+    let longer = grown before after (record { goal = c.len.result; effects_before = length c.effects.result.now }) c.push.result c.push.ensures.items c.if-is_err.ensures.value in
     let number = count_of numbers c.args.self.now.formulas c.len.result c.len.ensures in
     let listed = sym (length-map c.effects.result.now effect_of) ∙ ap length c.effects.ensures in
-    ap (λ x. with_moves t x (map move_of after)) c.if-not-push-text.ensures
+    ap (λ x. with_moves t x (map move_of after)) c.if-not-push_text.ensures
     ∙ ap (with_moves t (t.names ++ c.args.name.now ∷ [])) (mapped_push move_of before after _ longer ∙ ap (λ n. t.moves ++ record { goal = n; effects_before = length c.effects.result.now } ∷ []) number ∙ ap (λ n. t.moves ++ record { goal = length t.formulas; effects_before = n } ∷ []) listed)

@@ -8,10 +8,10 @@ use Rattle.depots.proofs.depot.Depot.take_fact.Goals as goal
 
 pub returns : goal.returns
 returns g c =
-    fact_line (meaning g.K.Kind.wording g.K.Kind.reading g.K.Kind.alike g.K.Kind.certain) (tables_of c.args.self.now) (shown_fields c.args.fields) c.list-fact.result _ _ _ _ c.args.self.now.facts.ok.0 c.list-fact.ensures
+    fact_line (meaning g.K.Kind.wording g.K.Kind.reading g.K.Kind.alike g.K.Kind.certain) (tables_of c.args.self.now) (shown_fields c.args.fields) c.list_fact.result _ _ _ _ c.args.self.now.facts.ok.0 c.list_fact.ensures
 
 pub invariant-of-self : goal.invariant-of-self
 invariant-of-self g c =
     let facts = c.args.self.now.facts in
-    let few = few-facts (meaning g.K.Kind.wording g.K.Kind.reading g.K.Kind.alike g.K.Kind.certain) (tables_of c.args.self.now) (shown_fields c.args.fields) (vec_items c.list-fact.new.facts) (map text_of (vec_items c.list-fact.new.texts)) _ facts.ok.0 c.args.self.now.few (vec_items c.list-fact.new.texts ≡ vec_items c.args.self.now.texts) c.list-fact.result c.list-fact.ensures in
-    (omega (arith, few, c.list-fact.new.facts.ok.0), tt)
+    let few = few-facts (meaning g.K.Kind.wording g.K.Kind.reading g.K.Kind.alike g.K.Kind.certain) (tables_of c.args.self.now) (shown_fields c.args.fields) (vec_items c.list_fact.new.facts) (map text_of (vec_items c.list_fact.new.texts)) _ facts.ok.0 c.args.self.now.few (vec_items c.list_fact.new.texts ≡ vec_items c.args.self.now.texts) c.list_fact.result c.list_fact.ensures in
+    (omega (arith, few, c.list_fact.new.facts.ok.0), tt)

@@ -8,12 +8,12 @@ use Rattle.depots.proofs.depot.Depot.take_goal.Goals as goal
 
 pub returns : goal.returns
 returns g c =
-    let read = c.in-ok-goal.ensures in
-    let v = tables_of c.push-formula.new.self in (
+    let read = c.in_ok-goal.ensures in
+    let v = tables_of c.push_formula.new.self in (
       read.0,
       (
         v,
-        subst (AddsFormula (meaning g.K.Kind.wording g.K.Kind.reading g.K.Kind.alike g.K.Kind.certain) (tables_of c.args.self.now) c.args.fields.second.now) (sym c.in-ok-push-formula.ensures) read.1,
-        ap (with_goal v) (count_of numbers c.push-formula.new.self.formulas c.len-self.result c.len-self.ensures),
+        subst (AddsFormula (meaning g.K.Kind.wording g.K.Kind.reading g.K.Kind.alike g.K.Kind.certain) (tables_of c.args.self.now) c.args.fields.second.now) (sym c.in_ok-push_formula.ensures) read.1,
+        ap (with_goal v) (count_of numbers c.push_formula.new.self.formulas c.len-self.result c.len-self.ensures),
       ),
     )

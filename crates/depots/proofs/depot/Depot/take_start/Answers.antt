@@ -9,4 +9,4 @@ use Rattle.depots.proofs.depot.Depot.take_start.Goals as goal
 
 pub returns : goal.returns
 returns g c =
-    start_line (meaning g.K.Kind.wording g.K.Kind.reading g.K.Kind.alike g.K.Kind.certain) (tables_of c.args.self.now) (shown_fields c.args.fields) c.start-fact.result _ _ _ (ap (λ facts. number_of_text g.K.Kind.alike (g.K.Kind.reading (listing_of c.args.self.now.names)) facts c.args.fields.second.now) c.deref.ensures.value) c.start-fact.ensures
+    start_line (meaning g.K.Kind.wording g.K.Kind.reading g.K.Kind.alike g.K.Kind.certain) (tables_of c.args.self.now) (shown_fields c.args.fields) c.start_fact.result _ _ _ (ap (λ facts. number_of_text g.K.Kind.alike (g.K.Kind.reading (listing_of c.args.self.now.names)) facts c.args.fields.second.now) c.deref.ensures.value) c.start_fact.ensures
