@@ -51,7 +51,7 @@ pub fn list_fact<K: Kind>(
     texts: &mut Vec<Name>,
     text: &[u8],
 ) -> Result<(), Refusal>
-    ensures { Taken (trouble_in (new_fact alike certain (reading names.now text.now) facts.old.items) ∷ None ∷ None ∷ []) (nat_le 128 (vec_len facts.old)) ((f : K.Fact) × (new_fact alike certain (reading names.now text.now) facts.old.items ≡ Ok f) × (facts.new.items ≡ facts.old.items ++ f ∷ []) × (map text_of texts.new.items ≡ map text_of texts.old.items ++ text.now ∷ [])) ((facts.new.items ≡ facts.old.items) × (texts.new.items ≡ texts.old.items)) result }
+    ensures { Taken (trouble_in (new_fact K.alike K.certain (K.reading names.now text.now) facts.old.items) ∷ None ∷ None ∷ []) (nat_le 128 (vec_len facts.old)) ((f : K.Fact) × (new_fact K.alike K.certain (K.reading names.now text.now) facts.old.items ≡ Ok f) × (facts.new.items ≡ facts.old.items ++ f ∷ []) × (map text_of texts.new.items ≡ map text_of texts.old.items ++ text.now ∷ [])) ((facts.new.items ≡ facts.old.items) × (texts.new.items ≡ texts.old.items)) result }
 {
     match new_fact::<K>(names, facts, text) {
         Err(trouble) => Err(only(trouble)),
@@ -76,7 +76,7 @@ pub fn start_fact<K: Kind>(
     started: &mut Vec<usize>,
     text: &[u8],
 ) -> Result<(), Refusal>
-    ensures { Taken (trouble_in (new_start (number_of_text alike (reading names.now) facts.now text.now) started.old.items) ∷ None ∷ None ∷ []) false ((n : ℕ) × (new_start (number_of_text alike (reading names.now) facts.now text.now) started.old.items ≡ Ok n) × (started.new.items ≡ started.old.items ++ n ∷ [])) (started.new.items ≡ started.old.items) result }
+    ensures { Taken (trouble_in (new_start (number_of_text K.alike (K.reading names.now) facts.now text.now) started.old.items) ∷ None ∷ None ∷ []) false ((n : ℕ) × (new_start (number_of_text K.alike (K.reading names.now) facts.now text.now) started.old.items ≡ Ok n) × (started.new.items ≡ started.old.items ++ n ∷ [])) (started.new.items ≡ started.old.items) result }
 {
     match new_start::<K>(names, facts, started, text) {
         Err(trouble) => Err(only(trouble)),

@@ -46,7 +46,7 @@ pub(crate) fn is_among(number: usize, numbers: &[usize]) -> bool
 
 // The fact that a field lists anew.
 pub fn new_fact<K: Kind>(names: &Names, facts: &[K::Fact], text: &[u8]) -> Result<K::Fact, Trouble>
-    ensures { result ≡ new_fact alike certain (reading names.now text.now) facts.now }
+    ensures { result ≡ new_fact K.alike K.certain (K.reading names.now text.now) facts.now }
 {
     match K::read(names, text) {
         Err(why) => Err(trouble(why)),
@@ -69,7 +69,7 @@ pub fn new_start<K: Kind>(
     started: &[usize],
     text: &[u8],
 ) -> Result<usize, Trouble>
-    ensures { result ≡ new_start (number_of_text alike (reading names.now) facts.now text.now) started.now }
+    ensures { result ≡ new_start (number_of_text K.alike (K.reading names.now) facts.now text.now) started.now }
 {
     match number_of::<K>(names, facts, text) {
         Err(why) => Err(trouble(why)),

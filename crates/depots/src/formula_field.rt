@@ -71,7 +71,7 @@ pub(crate) fn formula_field<K: Kind>(
     facts: &[K::Fact],
     text: &[u8],
 ) -> Result<FormulaField, Refusal>
-    ensures { MatchResult result (FormulaRead (number_of_text alike (reading (listing_of names.now)) facts.now) text.now) (λ w. w ≡ NoMemory) }
+    ensures { MatchResult result (FormulaRead (number_of_text K.alike (K.reading (listing_of names.now)) facts.now) text.now) (λ w. w ≡ NoMemory) }
 {
     match reading::read(heap, text) {
         Err(Unread::NoMemory) => Err(Refusal::NoMemory),

@@ -6,5 +6,5 @@ use facts::kinds::Kind;
 
 // A sheet spells one depot at the most, has one refusal at the most, and not both, whatever the kind.
 pub fn sheets_fix_the_answer<K: Kind>()
-    ensures { SheetFixes (meaning wording reading alike certain) }
+    ensures { SheetFixes (meaning K.wording K.reading K.alike K.certain) }
 {}

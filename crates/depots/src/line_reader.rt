@@ -43,7 +43,7 @@ fn fields_of<'a>(line: &Line<'a>) -> Fields<'a>
 impl<K: Kind> Depot<K> {
     // Takes a line with a letter into the tables.
     fn take(&mut self, heap: Global, letter: Letter, fields: Fields) -> Result<(), Refusal>
-        ensures { LineTaken (meaning wording reading alike certain) (tables_of self.old) letter (shown_fields fields.entry) result (tables_of self.new) }
+        ensures { LineTaken (meaning K.wording K.reading K.alike K.certain) (tables_of self.old) letter (shown_fields fields.entry) result (tables_of self.new) }
     {
         match letter {
             Letter::Kind => self.take_kind(fields),
@@ -64,7 +64,7 @@ impl<K: Kind> Depot<K> {
         above: &Above,
         line: &Line,
     ) -> Result<Letter, Refusal>
-        ensures { LineAdded (meaning wording reading alike certain) (tables_of self.old) above.now (shown line.now) result (tables_of self.new) }
+        ensures { LineAdded (meaning K.wording K.reading K.alike K.certain) (tables_of self.old) above.now (shown line.now) result (tables_of self.new) }
     {
         let letter = above.judge(line)?;
         self.take(heap, letter, fields_of(line))?;

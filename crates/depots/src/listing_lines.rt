@@ -19,7 +19,7 @@ const MOST_MATTERS: usize = 64;
 
 impl<K: Kind> Depot<K> {
     pub(crate) fn take_kind(&self, fields: Fields) -> Result<(), Refusal>
-        ensures { LineTaken (meaning wording reading alike certain) (tables_of self.now) letter.Kind (shown_fields fields.entry) result (tables_of self.now) }
+        ensures { LineTaken (meaning K.wording K.reading K.alike K.certain) (tables_of self.now) letter.Kind (shown_fields fields.entry) result (tables_of self.now) }
     {
         if !K::is_word(fields.second) {
             return Err(only(Trouble::NotItsForm));
@@ -28,19 +28,19 @@ impl<K: Kind> Depot<K> {
     }
 
     pub(crate) fn take_zone(&mut self, heap: Global, fields: Fields) -> Result<(), Refusal>
-        ensures { LineTaken (meaning wording reading alike certain) (tables_of self.old) letter.Zone (shown_fields fields.entry) result (tables_of self.new) }
+        ensures { LineTaken (meaning K.wording K.reading K.alike K.certain) (tables_of self.old) letter.Zone (shown_fields fields.entry) result (tables_of self.new) }
     {
         list_name(heap, &mut self.names.zones, MOST_ZONES, fields.second)
     }
 
     pub(crate) fn take_matter(&mut self, heap: Global, fields: Fields) -> Result<(), Refusal>
-        ensures { LineTaken (meaning wording reading alike certain) (tables_of self.old) letter.Matter (shown_fields fields.entry) result (tables_of self.new) }
+        ensures { LineTaken (meaning K.wording K.reading K.alike K.certain) (tables_of self.old) letter.Matter (shown_fields fields.entry) result (tables_of self.new) }
     {
         list_name(heap, &mut self.names.matters, MOST_MATTERS, fields.second)
     }
 
     pub(crate) fn take_fact(&mut self, heap: Global, fields: Fields) -> Result<(), Refusal>
-        ensures { LineTaken (meaning wording reading alike certain) (tables_of self.old) letter.Fact (shown_fields fields.entry) result (tables_of self.new) }
+        ensures { LineTaken (meaning K.wording K.reading K.alike K.certain) (tables_of self.old) letter.Fact (shown_fields fields.entry) result (tables_of self.new) }
     {
         list_fact::<K>(
             heap,
@@ -52,7 +52,7 @@ impl<K: Kind> Depot<K> {
     }
 
     pub(crate) fn take_start(&mut self, fields: Fields) -> Result<(), Refusal>
-        ensures { LineTaken (meaning wording reading alike certain) (tables_of self.old) letter.Start (shown_fields fields.entry) result (tables_of self.new) }
+        ensures { LineTaken (meaning K.wording K.reading K.alike K.certain) (tables_of self.old) letter.Start (shown_fields fields.entry) result (tables_of self.new) }
     {
         start_fact::<K>(&self.names, &self.facts, &mut self.started, fields.second)
     }

@@ -31,7 +31,7 @@ pub struct NewEffect {
 impl<K: Kind> Depot<K> {
     // The need of a move that a line lists.
     fn read_move(&self, heap: Global, fields: Fields) -> Result<NewFormula, Refusal>
-        ensures { LineRead (meaning wording reading alike certain) (tables_of self.now) letter.Move (shown_fields fields.entry) (λ new. AddsFormula (meaning wording reading alike certain) (tables_of self.now) (shown_fields fields.entry).third (with_formula (tables_of self.now) new)) result }
+        ensures { LineRead (meaning K.wording K.reading K.alike K.certain) (tables_of self.now) letter.Move (shown_fields fields.entry) (λ new. AddsFormula (meaning K.wording K.reading K.alike K.certain) (tables_of self.now) (shown_fields fields.entry).third (with_formula (tables_of self.now) new)) result }
     {
         let need = self.formula(heap, fields.third)?;
         if let Some(refusal) = lowest(self.new_move_name(fields.second), need.trouble(), None) {
@@ -47,7 +47,7 @@ impl<K: Kind> Depot<K> {
     }
 
     pub(crate) fn take_move(&mut self, heap: Global, fields: Fields) -> Result<(), Refusal>
-        ensures { LineTaken (meaning wording reading alike certain) (tables_of self.old) letter.Move (shown_fields fields.entry) result (tables_of self.new) }
+        ensures { LineTaken (meaning K.wording K.reading K.alike K.certain) (tables_of self.old) letter.Move (shown_fields fields.entry) result (tables_of self.new) }
     {
         let need = self.read_move(heap, fields)?;
         self.push_formula(need)?;
@@ -64,7 +64,7 @@ impl<K: Kind> Depot<K> {
 
     // The effect that a line lists.
     fn read_effect(&self, heap: Global, fields: Fields) -> Result<NewEffect, Refusal>
-        ensures { LineRead (meaning wording reading alike certain) (tables_of self.now) letter.Effect (shown_fields fields.entry) (EffectRead (meaning wording reading alike certain) (tables_of self.now) (shown_fields fields.entry)) result }
+        ensures { LineRead (meaning K.wording K.reading K.alike K.certain) (tables_of self.now) letter.Effect (shown_fields fields.entry) (EffectRead (meaning K.wording K.reading K.alike K.certain) (tables_of self.now) (shown_fields fields.entry)) result }
     {
         let condition = self.formula(heap, fields.second)?;
         let settings = self.listed_facts(fields.third);
@@ -90,7 +90,7 @@ impl<K: Kind> Depot<K> {
     }
 
     pub(crate) fn take_effect(&mut self, heap: Global, fields: Fields) -> Result<(), Refusal>
-        ensures { LineTaken (meaning wording reading alike certain) (tables_of self.old) letter.Effect (shown_fields fields.entry) result (tables_of self.new) }
+        ensures { LineTaken (meaning K.wording K.reading K.alike K.certain) (tables_of self.old) letter.Effect (shown_fields fields.entry) result (tables_of self.new) }
     {
         let NewEffect {
             condition,
@@ -103,7 +103,7 @@ impl<K: Kind> Depot<K> {
 
     // The goal that a line has.
     fn read_goal(&self, heap: Global, fields: Fields) -> Result<NewFormula, Refusal>
-        ensures { LineRead (meaning wording reading alike certain) (tables_of self.now) letter.Goal (shown_fields fields.entry) (λ new. AddsFormula (meaning wording reading alike certain) (tables_of self.now) (shown_fields fields.entry).second (with_formula (tables_of self.now) new)) result }
+        ensures { LineRead (meaning K.wording K.reading K.alike K.certain) (tables_of self.now) letter.Goal (shown_fields fields.entry) (λ new. AddsFormula (meaning K.wording K.reading K.alike K.certain) (tables_of self.now) (shown_fields fields.entry).second (with_formula (tables_of self.now) new)) result }
     {
         let goal = self.formula(heap, fields.second)?;
         if let Some(refusal) = lowest(goal.trouble(), None, None) {
@@ -116,7 +116,7 @@ impl<K: Kind> Depot<K> {
     }
 
     pub(crate) fn take_goal(&mut self, heap: Global, fields: Fields) -> Result<(), Refusal>
-        ensures { LineTaken (meaning wording reading alike certain) (tables_of self.old) letter.Goal (shown_fields fields.entry) result (tables_of self.new) }
+        ensures { LineTaken (meaning K.wording K.reading K.alike K.certain) (tables_of self.old) letter.Goal (shown_fields fields.entry) result (tables_of self.new) }
     {
         let goal = self.read_goal(heap, fields)?;
         self.push_formula(goal)?;

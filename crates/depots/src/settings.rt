@@ -60,7 +60,7 @@ fn has_repeat(numbers: &[usize]) -> bool
 // The numbers of the facts that stand between the commas of a text.
 fn gather<K: Kind>(names: &Names, facts: &[K::Fact], text: &[u8]) -> Result<FactList, Trouble>
     requires { length (pieces 44 text.now) ≤ 8 }
-    ensures { Comes (gathered (map (number_of_text alike (reading names.now) facts.now) (pieces 44 text.now))) result }
+    ensures { Comes (gathered (map (number_of_text K.alike (K.reading names.now) facts.now) (pieces 44 text.now))) result }
 {
     let mut list = FactList::none();
     let mut unlisted = false;
@@ -89,7 +89,7 @@ pub fn fact_list<K: Kind>(
     facts: &[K::Fact],
     text: &[u8],
 ) -> Result<FactList, Trouble>
-    ensures { Comes (list_reading (number_of_text alike (reading names.now) facts.now) text.now) result }
+    ensures { Comes (list_reading (number_of_text K.alike (K.reading names.now) facts.now) text.now) result }
 {
     if bytes::same(text, b"-") {
         return Ok(FactList::none());

@@ -56,7 +56,7 @@ impl<K: Kind> Depot<K> {
     // Reads the lines of a sheet into an empty depot.
     fn read_lines(&mut self, heap: Global, sheet: &[u8]) -> Result<(), Fault>
         requires { tables_of self.old ≡ no_tables }
-        ensures { MatchResult result (λ _. DepotRead (meaning wording reading alike certain) sheet.now (tables_of self.new)) (DepotTold (meaning wording reading alike certain) sheet.now) }
+        ensures { MatchResult result (λ _. DepotRead (meaning K.wording K.reading K.alike K.certain) sheet.now (tables_of self.new)) (DepotTold (meaning K.wording K.reading K.alike K.certain) sheet.now) }
     {
         if sheet.len() > DEPOT_LIMIT {
             return Err(Fault::on(Sheet::Depot, 0, Refusal::OverLimit));
@@ -81,7 +81,7 @@ impl<K: Kind> Depot<K> {
     // Reads a depot sheet: the depot then has the tables that the sheet spells, or the sheet is refused for its lowest fault
     // and the depot is empty.
     pub fn read(&mut self, heap: Global, sheet: &[u8]) -> Result<(), Fault>
-        ensures { MatchResult result (λ _. DepotRead (meaning wording reading alike certain) sheet.now (tables_of self.new)) (λ f. DepotTold (meaning wording reading alike certain) sheet.now f × (tables_of self.new ≡ no_tables)) }
+        ensures { MatchResult result (λ _. DepotRead (meaning K.wording K.reading K.alike K.certain) sheet.now (tables_of self.new)) (λ f. DepotTold (meaning K.wording K.reading K.alike K.certain) sheet.now f × (tables_of self.new ≡ no_tables)) }
     {
         if !self.begin(heap) {
             return Err(no_memory());

@@ -21,14 +21,14 @@ use std::alloc::Global;
 impl<K: Kind> Depot<K> {
     // What a field with a formula holds.
     pub(crate) fn formula(&self, heap: Global, text: &[u8]) -> Result<FormulaField, Refusal>
-        ensures { MatchResult result (FormulaRead (number_among (meaning wording reading alike certain) (tables_of self.now)) text.now) (λ w. w ≡ NoMemory) }
+        ensures { MatchResult result (FormulaRead (number_among (meaning K.wording K.reading K.alike K.certain) (tables_of self.now)) text.now) (λ w. w ≡ NoMemory) }
     {
         formula_field::<K>(heap, &self.names, &self.facts, text)
     }
 
     // The facts that a field of settings or strikes lists.
     pub(crate) fn listed_facts(&self, text: &[u8]) -> Result<FactList, Trouble>
-        ensures { Comes (list_reading (number_among (meaning wording reading alike certain) (tables_of self.now)) text.now) result }
+        ensures { Comes (list_reading (number_among (meaning K.wording K.reading K.alike K.certain) (tables_of self.now)) text.now) result }
     {
         fact_list::<K>(&self.names, &self.facts, text)
     }

@@ -1,7 +1,8 @@
 -- What carries what, by lists of watchers. Assumes nothing.
-use Rattle.std.specs.Prelude.{◌≡◌, ℕ, ◌+◌, ◌-◌, ◌<◌, ◌≤◌, Bool, true, false, ◌⊎◌, List, [], ◌∷◌, ◌++◌, length, take, drop, Decides, ◌==◌, ◌≢◌, nat_lt, refl}
+use Rattle.std.specs.Prelude.{◌≡◌, ℕ, ◌-◌, ◌<◌, ◌≤◌, Bool, true, false, ◌⊎◌, List, [], ◌∷◌, ◌++◌, length, take, drop, Decides, ◌==◌, ◌≢◌, nat_lt, refl}
 use Rattle.std.proofs.Common.{sym, ap, ◌∙◌, append_assoc, inl, inr, ⊎_elim, arith, length-append, length-take}
-use Rattle.std.specs.Cmp.Lexicographic.{Matches}
+use Rattle.std.specs.Cmp.{IsPartialEquivalence}
+use Rattle.std.specs.Cmp.Lexicographic.{pointwise}
 use Rattle.std.proofs.lemmas.Slice.Eq.{slice_eq-Decides, ends_is}
 use Rattle.std.proofs.lemmas.Bool.{false≢true, le-ltb, cases_Bool}
 use Rattle.std.proofs.lemmas.Bool.Decides.{same_from_decides, Decides-eqb, Decides-like, Decides-and, Decides-or}
@@ -22,6 +23,16 @@ same_watcher-decides All All = (λ _. refl, λ _. refl)
 same_watcher-decides All (Zone b) = (λ e. absurd (false≢true e), λ e. absurd (apart b refl refl e))
 same_watcher-decides (Zone a) All = (λ e. absurd (false≢true e), λ e. absurd (apart a refl refl (sym e)))
 same_watcher-decides (Zone a) (Zone b) = Decides-like (a == b) (λ e. ap Zone e) (λ e. cc) (Decides-eqb a b)
+
+-- what the trait asks of the test
+pub same_watcher_laws : IsPartialEquivalence same_watcher
+same_watcher_laws = record {
+  symm = λ v w. same_from_decides (same_watcher v w) (same_watcher w v) (turned v w) (same_watcher-decides w v);
+  trans = λ u v w p q. (same_watcher-decides u w).1 ((same_watcher-decides u v).0 p ∙ (same_watcher-decides v w).0 q);
+}
+  where
+    turned : (v w : Watcher) → Decides (same_watcher v w) (w ≡ v)
+    turned v w = let d = same_watcher-decides v w in (λ e. sym (d.0 e), λ e. d.1 (sym e))
 
 pub same_watchers-decides : (a b : List Watcher) → Decides (same_watchers a b) (a ≡ b)
 same_watchers-decides [] [] = (λ _. refl, λ _. refl)
@@ -93,12 +104,12 @@ sight_carries-trans a b c p q =
 
 -- what the code's tests of two slices say
 module _ (s p : List Watcher) where
-  pub watchers_same : (r : Bool) → Matches (λ (a b : Watcher) (t : Bool). Decides t (a ≡ b)) s p r → r ≡ same_watchers s p
-  watchers_same r told = same_from_decides r (same_watchers s p) (slice_eq-Decides Decides-eqb s p r told) (same_watchers-decides s p)
+  pub watchers_same : (r : Bool) → r ≡ pointwise same_watcher s p → r ≡ same_watchers s p
+  watchers_same r told = same_from_decides r (same_watchers s p) (slice_eq-Decides same_watcher-decides s p r told) (same_watchers-decides s p)
 
-  pub ends_above : (r : Bool) → length p < length s → Matches (λ (a b : Watcher) (t : Bool). Decides t (a ≡ b)) p (drop (length s - length p) s) r → r ≡ above p s
+  pub ends_above : (r : Bool) → length p < length s → r ≡ pointwise same_watcher p (drop (length s - length p) s) → r ≡ above p s
   ends_above r longer told =
-      let ends = ends_is Decides-eqb s p r told in
+      let ends = ends_is same_watcher-decides s p r told in
       let some : 0 < length (take (length s - length p) s) = omega (arith, length-take (length s - length p) s) in
       same_from_decides r (above p s) (λ e. (take (length s - length p) s, ends.0 e, some), λ h. ends.1 h.0 h.1) (above-decides p s)
 

@@ -6,6 +6,7 @@ pub mod listed;
 pub mod meaning;
 pub mod names;
 pub mod plain;
+mod sameness;
 pub mod sight;
 mod sight_text;
 pub mod sighted;

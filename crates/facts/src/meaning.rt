@@ -7,20 +7,21 @@ ghost use Rattle.facts.specs.Watchers.{Idle};
 ghost use Rattle.facts.specs.Worked.{Worked};
 
 use crate::kinds::Kind;
+use crate::sight::Sight;
 use crate::sighted::SightFact;
 
 // A sight fact carries another if they are the same, or if it is `all` before what the other has one or more watchers before.
 pub fn sight_carries(a: &SightFact, b: &SightFact) -> bool
     ensures { Decides result (Carries a.now b.now) }
 {
-    <crate::sight::Sight as Kind>::carries(a, b)
+    Sight::carries(a, b)
 }
 
 // A sight fact is always true if some watcher in it is followed by itself or by `all`.
 pub fn sight_is_always_true(fact: &SightFact) -> bool
     ensures { Decides result (Idle (watchers_of fact.now)) }
 {
-    <crate::sight::Sight as Kind>::always_true(fact)
+    Sight::always_true(fact)
 }
 
 // Under the same names a plain fact gives its text back, so two texts are the same fact exactly if they are equal.

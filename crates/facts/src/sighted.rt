@@ -1,7 +1,5 @@
 // The facts of the sight kind. The types stand alone here, since the definitions that speak of them are imported by the rest.
-ghost use Rattle.std.specs.Prelude.{◌≡◌, ◌≤◌, Decides};
-ghost use Rattle.std.specs.Cmp.Rules.{comparing};
-ghost use Rattle.std.proofs.Common.{rules};
+ghost use Rattle.std.specs.Prelude.{◌≤◌};
 
 // The most watchers that stand before a matter.
 pub const MOST_WATCHERS: usize = 5;
@@ -11,20 +9,6 @@ pub const MOST_WATCHERS: usize = 5;
 pub enum Watcher {
     All,
     Zone(usize),
-}
-
-impl PartialEq for Watcher {
-    ghost equals = { λ a b r. Decides r (a ≡ b) };
-
-    ghost laws = { Prim.search (comparing, rules) };
-
-    fn eq(&self, other: &Watcher) -> bool {
-        match (*self, *other) {
-            (Watcher::All, Watcher::All) => true,
-            (Watcher::Zone(a), Watcher::Zone(b)) => a == b,
-            _ => false,
-        }
-    }
 }
 
 // A fact (an atom): its watchers in their order, then the listed matter that they see. Places past the count hold nothing of note.

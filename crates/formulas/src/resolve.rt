@@ -31,7 +31,7 @@ impl From<AllocError> for Unresolved {
 
 // Whether a text has the form of a fact, be it listed or not.
 fn has_form<K: Kind>(names: &Names, facts: &[K::Fact], text: &[u8]) -> bool
-    ensures { result ≡ has_form (number_of_text alike (reading names.now) facts.now text.now) }
+    ensures { result ≡ has_form (number_of_text K.alike (K.reading names.now) facts.now text.now) }
 {
     match listed::number_of::<K>(names, facts, text) {
         Err(NoFact::NotItsForm) => false,
@@ -42,7 +42,7 @@ fn has_form<K: Kind>(names: &Names, facts: &[K::Fact], text: &[u8]) -> bool
 // Whether every fact of a formula has the form of one.
 #[cycle(all_formed_all_formed_in)]
 fn all_formed<K: Kind>(names: &Names, facts: &[K::Fact], formula: &Formula<&[u8]>) -> bool
-    ensures { result ≡ each_passes (λ text. has_form (number_of_text alike (reading names.now) facts.now text)) (texted formula.now) }
+    ensures { result ≡ each_passes (λ text. has_form (number_of_text K.alike (K.reading names.now) facts.now text)) (texted formula.now) }
 {
     match formula {
         Formula::Fact(text) => has_form::<K>(names, facts, text),
@@ -54,7 +54,7 @@ fn all_formed<K: Kind>(names: &Names, facts: &[K::Fact], formula: &Formula<&[u8]
 // The same of formulas in a row.
 #[cycle(all_formed_all_formed_in)]
 fn all_formed_in<K: Kind>(names: &Names, facts: &[K::Fact], formulas: &Formulas<&[u8]>) -> bool
-    ensures { result ≡ each_passes_in (λ text. has_form (number_of_text alike (reading names.now) facts.now text)) (texted_all formulas.now) }
+    ensures { result ≡ each_passes_in (λ text. has_form (number_of_text K.alike (K.reading names.now) facts.now text)) (texted_all formulas.now) }
 {
     match formulas {
         Formulas::Nil => true,
@@ -70,7 +70,7 @@ fn numbered_fact<K: Kind>(
     facts: &[K::Fact],
     text: &[u8],
 ) -> Result<Formula<usize>, Unresolved>
-    ensures { Numbers (number_of_text alike (reading names.now) facts.now) (fact text.now) result }
+    ensures { Numbers (number_of_text K.alike (K.reading names.now) facts.now) (fact text.now) result }
 {
     match listed::number_of::<K>(names, facts, text) {
         Ok(number) => Ok(Formula::Fact(number)),
@@ -87,7 +87,7 @@ fn number_facts<K: Kind>(
     facts: &[K::Fact],
     formula: &Formula<&[u8]>,
 ) -> Result<Formula<usize>, Unresolved>
-    ensures { Numbers (number_of_text alike (reading names.now) facts.now) (texted formula.now) result }
+    ensures { Numbers (number_of_text K.alike (K.reading names.now) facts.now) (texted formula.now) result }
 {
     match formula {
         Formula::Fact(text) => numbered_fact::<K>(names, facts, text),
@@ -110,7 +110,7 @@ fn number_facts_in<K: Kind>(
     facts: &[K::Fact],
     formulas: &Formulas<&[u8]>,
 ) -> Result<Formulas<usize>, Unresolved>
-    ensures { NumbersIn (number_of_text alike (reading names.now) facts.now) (texted_all formulas.now) result }
+    ensures { NumbersIn (number_of_text K.alike (K.reading names.now) facts.now) (texted_all formulas.now) result }
 {
     match formulas {
         Formulas::Nil => Ok(Formulas::Nil),
@@ -129,7 +129,7 @@ pub fn resolve<K: Kind>(
     facts: &[K::Fact],
     formula: &Formula<&[u8]>,
 ) -> Result<Formula<usize>, Unresolved>
-    ensures { Resolves (number_of_text alike (reading names.now) facts.now) (texted formula.now) result }
+    ensures { Resolves (number_of_text K.alike (K.reading names.now) facts.now) (texted formula.now) result }
 {
     if !all_formed::<K>(names, facts, formula) {
         return Err(Unresolved::NotItsForm);

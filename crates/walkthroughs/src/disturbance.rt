@@ -34,7 +34,7 @@ fn other_part<K: Kind>(
     after: &[bool; MOST_MARKS],
     number: usize,
 ) -> Option<usize>
-    ensures { LowestBy one (Otherwise (ruled carrying (tables_of depot.now)) (stands_in start.now) (stands_in after.now) number) result }
+    ensures { LowestBy one (Otherwise (ruled K.carrying (tables_of depot.now)) (stands_in start.now) (stands_in after.now) number) result }
 {
     let parts = depot.effects_of(number).len() + 1;
     for part in 0..parts {
@@ -53,7 +53,7 @@ fn other_place<K: Kind>(
     moves: &[usize],
     set: usize,
 ) -> Option<(usize, usize)>
-    ensures { LowestBy two (λ x. OtherAt (ruled carrying (tables_of depot.now)) (stands_in start.now) (stands_in after.now) moves.now set x.0 x.1) result }
+    ensures { LowestBy two (λ x. OtherAt (ruled K.carrying (tables_of depot.now)) (stands_in start.now) (stands_in after.now) moves.now set x.0 x.1) result }
 {
     for i in 0..moves.len() {
         if !in_set(set, i + 1) {
@@ -73,8 +73,8 @@ pub(crate) fn disturbance<K: Kind>(
     outcomes: &[Outcome],
 ) -> Option<(usize, usize, usize)>
     requires few { length moves.now ≤ 8 }
-    requires outcomes { AreOutcomes (ruled carrying (tables_of depot.now)) (stands_in start.now) moves.now outcomes.now }
-    ensures { LowestBy three (λ x. SetDisturbs (ruled carrying (tables_of depot.now)) (stands_in start.now) moves.now x.0 x.1 x.2) result }
+    requires outcomes { AreOutcomes (ruled K.carrying (tables_of depot.now)) (stands_in start.now) moves.now outcomes.now }
+    ensures { LowestBy three (λ x. SetDisturbs (ruled K.carrying (tables_of depot.now)) (stands_in start.now) moves.now x.0 x.1 x.2) result }
 {
     for set in 0..1usize << moves.len() {
         let after = after_set(start, outcomes, set);

@@ -55,7 +55,7 @@ pub(crate) fn false_need<K: Kind>(
     start: &[bool; MOST_MARKS],
     moves: &[usize],
 ) -> Option<usize>
-    ensures { LowestBy one (FalseAt (ruled carrying (tables_of depot.now)) (stands_in start.now) moves.now) result }
+    ensures { LowestBy one (FalseAt (ruled K.carrying (tables_of depot.now)) (stands_in start.now) moves.now) result }
 {
     for (i, number) in moves.iter().enumerate() {
         if !part_reads(depot, start, *number, 0) {

@@ -24,7 +24,7 @@ pub struct Outcome {
 // Marks the listed facts that the fact of a number carries.
 fn mark_from<K: Kind>(facts: &[K::Fact], number: usize, row: &mut [bool; MOST_MARKS])
     requires { length facts.now ≤ 128 }
-    ensures { (f : ℕ) → stands_in row.new f ≡ (stands_in row.old f || carries_among carrying facts.now number f) }
+    ensures { (f : ℕ) → stands_in row.new f ≡ (stands_in row.old f || carries_among K.carrying facts.now number f) }
 {
     if number == 0 || number > facts.len() {
         return;
@@ -35,7 +35,7 @@ fn mark_from<K: Kind>(facts: &[K::Fact], number: usize, row: &mut [bool; MOST_MA
 // Marks the listed facts that carry the fact of a number.
 fn mark_to<K: Kind>(facts: &[K::Fact], number: usize, row: &mut [bool; MOST_MARKS])
     requires { length facts.now ≤ 128 }
-    ensures { (f : ℕ) → stands_in row.new f ≡ (stands_in row.old f || carries_among carrying facts.now f number) }
+    ensures { (f : ℕ) → stands_in row.new f ≡ (stands_in row.old f || carries_among K.carrying facts.now f number) }
 {
     if number == 0 || number > facts.len() {
         return;
@@ -50,7 +50,7 @@ pub(crate) fn mark_from_all<K: Kind>(
     row: &mut [bool; MOST_MARKS],
 )
     requires { length facts.now ≤ 128 }
-    ensures { (f : ℕ) → stands_in row.new f ≡ (stands_in row.old f || any (λ g. carries_among carrying facts.now g f) numbers.now) }
+    ensures { (f : ℕ) → stands_in row.new f ≡ (stands_in row.old f || any (λ g. carries_among K.carrying facts.now g f) numbers.now) }
 {
     for number in numbers {
         mark_from::<K>(facts, *number, row);
@@ -60,7 +60,7 @@ pub(crate) fn mark_from_all<K: Kind>(
 // Marks the listed facts that carry any of some facts.
 fn mark_to_all<K: Kind>(facts: &[K::Fact], numbers: &[usize], row: &mut [bool; MOST_MARKS])
     requires { length facts.now ≤ 128 }
-    ensures { (f : ℕ) → stands_in row.new f ≡ (stands_in row.old f || any (λ g. carries_among carrying facts.now f g) numbers.now) }
+    ensures { (f : ℕ) → stands_in row.new f ≡ (stands_in row.old f || any (λ g. carries_among K.carrying facts.now f g) numbers.now) }
 {
     for number in numbers {
         mark_to::<K>(facts, *number, row);
@@ -74,7 +74,7 @@ fn fire_effect<K: Kind>(
     effect: &Effect,
     outcome: &mut Outcome,
 )
-    ensures { WithEffect (ruled carrying (tables_of depot.now)) (stands_in start.now) (effect_of effect.now) outcome.old outcome.new }
+    ensures { WithEffect (ruled K.carrying (tables_of depot.now)) (stands_in start.now) (effect_of effect.now) outcome.old outcome.new }
 {
     if !is_true(depot, start, effect.condition()) {
         return;
@@ -86,7 +86,7 @@ fn fire_effect<K: Kind>(
 
 // What the fired effects of a move do.
 pub(crate) fn fire<K: Kind>(depot: &Depot<K>, start: &[bool; MOST_MARKS], number: usize) -> Outcome
-    ensures { IsOutcome (ruled carrying (tables_of depot.now)) (stands_in start.now) number result }
+    ensures { IsOutcome (ruled K.carrying (tables_of depot.now)) (stands_in start.now) number result }
 {
     let mut outcome = Outcome {
         adds: [false; MOST_MARKS],

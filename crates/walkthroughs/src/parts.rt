@@ -12,7 +12,7 @@ use formulas::truth::truth;
 
 // Whether the formula with a number is true; where none is listed, it is.
 pub(crate) fn is_true<K: Kind>(depot: &Depot<K>, row: &[bool; MOST_MARKS], number: usize) -> bool
-    ensures { result ≡ truth_of (ruled carrying (tables_of depot.now)) (stands_in row.now) number }
+    ensures { result ≡ truth_of (ruled K.carrying (tables_of depot.now)) (stands_in row.now) number }
 {
     match depot.formula_at(number) {
         Some(formula) => truth(formula, row),
@@ -23,7 +23,7 @@ pub(crate) fn is_true<K: Kind>(depot: &Depot<K>, row: &[bool; MOST_MARKS], numbe
 // The formula number of a part of a move: part 0 is its need, and part e the condition of its effect e; 0 where there is
 // none.
 fn part_of<K: Kind>(depot: &Depot<K>, number: usize, part: usize) -> usize
-    ensures { result ≡ part_of (ruled carrying (tables_of depot.now)) number part }
+    ensures { result ≡ part_of (ruled K.carrying (tables_of depot.now)) number part }
 {
     if part == 0 {
         return depot.need_of(number);
@@ -42,7 +42,7 @@ pub(crate) fn part_reads<K: Kind>(
     number: usize,
     part: usize,
 ) -> bool
-    ensures { result ≡ reads (ruled carrying (tables_of depot.now)) (stands_in row.now) number part }
+    ensures { result ≡ reads (ruled K.carrying (tables_of depot.now)) (stands_in row.now) number part }
 {
     is_true(depot, row, part_of(depot, number, part))
 }
