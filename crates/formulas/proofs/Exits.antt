@@ -1,13 +1,13 @@
 -- What a reader answers, from what the one that it called answered. Assumes nothing.
-use Rattle.std.proofs.Common.{◌≡◌, ℕ, ◌-◌, ◌<◌, List, ◌∷◌, ◌++◌, Ok, Err, box_value, Result, sym, refl, ap, ◌∙◌, Bor}
+use Rattle.std.proofs.Common.{◌≡◌, ℕ, ◌-◌, ◌<◌, List, ◌∷◌, Ok, Err, Result, ap, Bor}
 use Rattle.formulas.specs.declared.tree.Formula.{Formula as Tree}
 use Rattle.formulas.specs.declared.tree.Formulas.{Formulas as Trees}
 use Rattle.formulas.specs.declared.tree.Unread.{Unread}
 use Rattle.formulas.specs.declared.tree.Unread.TheVariants.{NotItsForm, NoMemory}
-use Rattle.formulas.specs.Formulas.{Formula, Formulas, more}
+use Rattle.formulas.specs.Formulas.{Formula, more}
 use Rattle.formulas.specs.Marks.{Lacks}
-use Rattle.formulas.specs.Reading.{Begins, GoesOn, Formed, FormedOn}
-use Rattle.formulas.specs.Shapes.{shape, shapes, texted, texted_all, Joined}
+use Rattle.formulas.specs.Reading.{Begins, Formed, FormedOn}
+use Rattle.formulas.specs.Shapes.{shape, shapes, texted, Joined}
 use Rattle.formulas.proofs.Steps.{deeper, only_fact, not_turned, not_bracketed, no_first, not_carried_on}
 
 -- where a text begins with no `!` and no opening bracket, the fact is the answer at any depth

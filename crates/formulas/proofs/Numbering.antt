@@ -1,10 +1,10 @@
 -- The numbers of a formula's facts, from those of its parts. Assumes nothing.
-use Rattle.std.proofs.Common.{◌≡◌, ℕ, Bool, true, false, List, Ok, Err, Result, sym, refl, ap, ◌∙◌}
+use Rattle.std.proofs.Common.{◌≡◌, ℕ, Bool, false, List, Err, Result, sym, ap, ◌∙◌}
 use Rattle.std.proofs.lemmas.Bool.{and_from, and_left, and_right}
 use Rattle.facts.specs.declared.names.NoFact.{NoFact}
 use Rattle.formulas.specs.declared.resolve.Unresolved.{Unresolved}
 use Rattle.formulas.specs.declared.resolve.Unresolved.TheVariants.{NotItsForm, NotListed, NoMemory}
-use Rattle.formulas.specs.Formulas.{Formula, Formulas, fact, neg, all, none, more}
+use Rattle.formulas.specs.Formulas.{Formula, Formulas, neg, all, more}
 use Rattle.formulas.specs.Resolving.{each_passes, each_passes_in, renamed, renamed_in, has_form, is_listed, number_in, Numbered, NumberedIn, Numbers, NumbersIn}
 
 -- where a fact of a part fails a test, one of the whole does: in each, r is the part as it was read

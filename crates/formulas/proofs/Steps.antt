@@ -1,11 +1,11 @@
 -- The steps of the readers: what a text begins with, from what its parts do. Assumes nothing.
-use Rattle.std.proofs.Common.{◌≡◌, ℕ, suc, ◌+◌, ◌-◌, ◌<◌, ◌≤◌, max, Bool, true, false, cond, List, [], ◌∷◌, ◌++◌, length, take, drop, sym, refl, ap, ◌∙◌, subst, arith, length-append}
+use Rattle.std.proofs.Common.{◌≡◌, ℕ, suc, ◌-◌, ◌<◌, Bool, true, false, cond, List, [], ◌∷◌, ◌++◌, length, take, drop, sym, refl, ap, ◌∙◌, arith, length-append}
 use Rattle.std.specs.List.{AllByRecursion as All}
-use Rattle.std.proofs.lemmas.List.{append_assoc, take-append-drop}
+use Rattle.std.proofs.lemmas.List.{take-append-drop}
 use Rattle.formulas.specs.Formulas.{Formula, Formulas, fact, neg, all, none, more}
 use Rattle.formulas.specs.Marks.{run, Lacks}
-use Rattle.formulas.specs.Reading.{Ends, Closes, Begins, GoesOn}
-use Rattle.formulas.specs.Spelling.{is_mark, FactText, WellTexted, EachFactIn, spelled, spelled_all, spelled_on, depth_of, depth_in}
+use Rattle.formulas.specs.Reading.{Ends, Begins, GoesOn}
+use Rattle.formulas.specs.Spelling.{is_mark, FactText, spelled, spelled_all, spelled_on}
 use Rattle.formulas.proofs.Unique.{closes, on-ends, fact_no_mark, bracket_text, more-text, unique, tails, heads}
 
 -- the bytes before the first mark are none, and after them the text ends or a mark stands

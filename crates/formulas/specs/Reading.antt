@@ -5,7 +5,7 @@ use Rattle.formulas.specs.declared.tree.Formula.{Formula as Tree}
 use Rattle.formulas.specs.declared.tree.Formulas.{Formulas as Trees}
 use Rattle.formulas.specs.declared.tree.Unread.{Unread}
 use Rattle.formulas.specs.declared.tree.Unread.TheVariants.{NotItsForm, NoMemory}
-use Rattle.formulas.specs.Formulas.{Formula, Formulas, fact, neg, all, none, more}
+use Rattle.formulas.specs.Formulas.{Formula, Formulas, fact, neg, all}
 use Rattle.formulas.specs.Shapes.{texted, texted_all}
 use Rattle.formulas.specs.Spelling.{is_mark, WellTexted, FactText, EachFactIn, spelled, spelled_on, depth_of, depth_in}
 

@@ -15,35 +15,35 @@ brackets-brackets-requires t c =
     let shorter = left-fits c.args.depth c.args.text.now (texted c.in_ok-one.one) c.in_ok-one.after.now c.in_ok-one.ensures c.in-And.next.now c.in-And.ensures in
     (omega (arith, shorter, c.decreases), tt)
 
-pub brackets-returns-in_err-others : goal.brackets-returns-in_err-others
-brackets-returns-in_err-others t c =
-    let p = err_from_is_err_and c.from_residual-in_err-others.result c.from_residual-in_err-others.ensures.1 in
-    rw (p.1, p.2) (refused_others c.args.depth c.args.text.now (texted c.in_ok-one.one) c.in_ok-one.after.now c.in-And.next.now _ c.in_ok-one.ensures c.in-And.ensures c.in_err-others.ensures)
+pub brackets-returns-in_err-others-in-And : goal.brackets-returns-in_err-others-in-And
+brackets-returns-in_err-others-in-And t c =
+    let p = err_from_is_err_and c.from_residual-in_err-others-in-And.result c.from_residual-in_err-others-in-And.ensures.1 in
+    rw (p.1, p.2) (refused_others c.args.depth c.args.text.now (texted c.in_ok-one.one) c.in_ok-one.after.now c.in-And.next.now _ c.in_ok-one.ensures c.in-And.ensures c.in_err-others-in-And.ensures)
 
 pub brackets-returns-in-And : goal.brackets-returns-in-And
 brackets-returns-in-And t c =
-    rw (joined-shapes (λ l. l.now) c.in_ok-one.one c.in_ok-others.others c.in_ok-joined.field-0 c.in_ok-joined.ensures) (carried_on c.args.depth c.args.text.now (texted c.in_ok-one.one) c.in_ok-one.after.now c.in_ok-one.ensures c.in-And.next.now c.in-And.ensures (texted_all c.in_ok-others.others) c.in_ok-others.rest.now c.in_ok-others.ensures)
+    rw (joined-shapes (λ l. l.now) c.in_ok-one.one c.in_ok-others-in-And.others c.in_ok-joined-in-And.field-0 c.in_ok-joined-in-And.ensures) (carried_on c.args.depth c.args.text.now (texted c.in_ok-one.one) c.in_ok-one.after.now c.in_ok-one.ensures c.in-And.next.now c.in-And.ensures (texted_all c.in_ok-others-in-And.others) c.in_ok-others-in-And.rest.now c.in_ok-others-in-And.ensures)
 
 pub brackets-returns : goal.brackets-returns
 brackets-returns t c =
     broken_off c.args.depth c.args.text.now (texted c.in_ok-one.one) c.in_ok-one.after.now c.in_ok-one.ensures c.in-Other.ensures.0 c.in-Other.ensures.1
 
-pub formula-returns-in_err-inner : goal.formula-returns-in_err-inner
-formula-returns-in_err-inner t c =
+pub formula-returns-in_err-inner-in-Turn : goal.formula-returns-in_err-inner-in-Turn
+formula-returns-in_err-inner-in-Turn t c =
     let p = err_from_is_err_and c.from_residual.result c.from_residual.ensures.1 in
     let deep : 0 < c.args.depth = omega (arith, c.if-depth-eq0.false) in
-    rw (p.1, p.2) (refused_turn c.args.depth c.args.text.now c.in-Turn.after.now _ deep c.in-Turn.ensures c.in_err-inner.ensures)
+    rw (p.1, p.2) (refused_turn c.args.depth c.args.text.now c.in-Turn.after.now _ deep c.in-Turn.ensures c.in_err-inner-in-Turn.ensures)
 
-pub formula-returns-in_err-inner-2 : goal.formula-returns-in_err-inner-2
-formula-returns-in_err-inner-2 t c =
-    let p = err_from_is_err_and c.from_residual-in_err-inner-2.result c.from_residual-in_err-inner-2.ensures.1 in
+pub formula-returns-in_err-inner-in-Bracket : goal.formula-returns-in_err-inner-in-Bracket
+formula-returns-in_err-inner-in-Bracket t c =
+    let p = err_from_is_err_and c.from_residual-in_err-inner-in-Bracket.result c.from_residual-in_err-inner-in-Bracket.ensures.1 in
     let deep : 0 < c.args.depth = omega (arith, c.if-depth-eq0.false) in
-    rw (p.1, p.2) (refused_bracket c.args.depth c.args.text.now c.in-Bracket.after.now _ deep c.in-Bracket.ensures.0 c.in-Bracket.ensures.1 c.in_err-inner-2.ensures)
+    rw (p.1, p.2) (refused_bracket c.args.depth c.args.text.now c.in-Bracket.after.now _ deep c.in-Bracket.ensures.0 c.in-Bracket.ensures.1 c.in_err-inner-in-Bracket.ensures)
 
-pub formula-returns-in_ok-boxed-3 : goal.formula-returns-in_ok-boxed-3
-formula-returns-in_ok-boxed-3 t c =
+pub formula-returns-in_ok-boxed-in-Bracket : goal.formula-returns-in_ok-boxed-in-Bracket
+formula-returns-in_ok-boxed-in-Bracket t c =
     let deep : 0 < c.args.depth = omega (arith, c.if-depth-eq0.false) in
-    rw c.in_ok-boxed-3.ensures (bracketed c.args.depth c.args.text.now c.in-Bracket.after.now deep c.in-Bracket.ensures.0 (texted_all c.in_ok-inner-2.inner) c.in_ok-inner-2.rest.now c.in_ok-inner-2.ensures)
+    rw c.in_ok-boxed-in-Bracket.ensures (bracketed c.args.depth c.args.text.now c.in-Bracket.after.now deep c.in-Bracket.ensures.0 (texted_all c.in_ok-inner-in-Bracket.inner) c.in_ok-inner-in-Bracket.rest.now c.in_ok-inner-in-Bracket.ensures)
 
 pub formula-returns-in-Other : goal.formula-returns-in-Other
 formula-returns-in-Other t c =

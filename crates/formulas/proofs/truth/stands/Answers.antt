@@ -1,4 +1,4 @@
-use Rattle.std.proofs.Common.{◌≡◌, ◌-◌, ◌≤◌, false, not, ◌&&◌, eqb, length, get_or, sym, ap, ⊎_elim, arith}
+use Rattle.std.proofs.Common.{◌-◌, ◌≤◌, false, not, eqb, length, sym, ap, ⊎_elim, arith}
 use Rattle.std.proofs.lemmas.List.{get_or_past}
 use Rattle.std.proofs.lemmas.Bool.{and_right}
 use Rattle.formulas.specs.Truth.{stands_in}
