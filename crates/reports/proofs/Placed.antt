@@ -1,5 +1,5 @@
 -- The two parts of the line that tells a refusal, joined. Assumes nothing.
-use Rattle.std.proofs.Common.{◌≡◌, ℕ, List, [], ◌++◌, sym, ap, ◌∙◌, subst, append_assoc}
+use Rattle.std.proofs.Common.{◌≡◌, ℕ, List, [], ◌++◌, ap, ◌∙◌, append_assoc}
 use Rattle.sheets.specs.declared.faults.Fault.{Fault}
 use Rattle.sheets.specs.Refusals.{number_of, details_of}
 use Rattle.reports.specs.Refused.{word_of, placed_as, detailed_as, refusal_line}
