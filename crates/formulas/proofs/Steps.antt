@@ -1,6 +1,6 @@
 -- The steps of the readers: what a text begins with, from what its parts do. Assumes nothing.
 use Rattle.std.proofs.Common.{◌≡◌, ℕ, suc, ◌-◌, ◌<◌, Bool, true, false, cond, List, [], ◌∷◌, ◌++◌, length, take, drop, sym, refl, ap, ◌∙◌, arith, length-append}
-use Rattle.std.specs.List.{AllByRecursion as All}
+use Rattle.std.specs.List.{AllByRecursion}
 use Rattle.std.proofs.lemmas.List.{take-append-drop}
 use Rattle.formulas.specs.Formulas.{Formula, Formulas, fact, neg, all, none, more}
 use Rattle.formulas.specs.Marks.{run, Lacks}
@@ -9,11 +9,11 @@ use Rattle.formulas.specs.Spelling.{is_mark, FactText, spelled, spelled_all, spe
 use Rattle.formulas.proofs.Unique.{closes, on-ends, fact_no_mark, bracket_text, more-text, unique, tails, heads}
 
 -- the bytes before the first mark are none, and after them the text ends or a mark stands
-run-plain : (text : List ℕ) → All (λ b. is_mark b ≡ false) (take (run text) text) × Ends (drop (run text) text)
+run-plain : (text : List ℕ) → AllByRecursion (λ b. is_mark b ≡ false) (take (run text) text) × Ends (drop (run text) text)
 run-plain [] = (tt, tt)
 run-plain (b ∷ bs) = by_first (is_mark b) refl (run-plain bs)
   where
-    by_first : (t : Bool) → is_mark b ≡ t → All (λ x. is_mark x ≡ false) (take (run bs) bs) × Ends (drop (run bs) bs) → All (λ x. is_mark x ≡ false) (take (cond t 0 (suc (run bs))) (b ∷ bs)) × Ends (drop (cond t 0 (suc (run bs))) (b ∷ bs))
+    by_first : (t : Bool) → is_mark b ≡ t → AllByRecursion (λ x. is_mark x ≡ false) (take (run bs) bs) × Ends (drop (run bs) bs) → AllByRecursion (λ x. is_mark x ≡ false) (take (cond t 0 (suc (run bs))) (b ∷ bs)) × Ends (drop (cond t 0 (suc (run bs))) (b ∷ bs))
     by_first true is later = (tt, is)
     by_first false is later = ((is, later.0), later.1)
 

@@ -1,6 +1,6 @@
 -- The spelling fixes the formula, whatever follows it. Assumes nothing.
 use Rattle.std.proofs.Common.{◌≡◌, ℕ, true, false, List, [], ◌∷◌, ◌++◌, sym, refl, ap, ◌∙◌, arith}
-use Rattle.std.specs.List.{AllByRecursion as All}
+use Rattle.std.specs.List.{AllByRecursion}
 use Rattle.std.proofs.lemmas.List.{append_assoc, append-nil}
 use Rattle.formulas.specs.Formulas.{Formula, Formulas, fact, neg, all, none, more}
 use Rattle.formulas.specs.Reading.{Ends, Closes}
@@ -18,7 +18,7 @@ on-ends none rest = refl
 on-ends (more p ps) rest = refl
 
 -- bytes that are no marks end where the first mark stands
-pub facts_unique : (a b r s : List ℕ) → All (λ x. is_mark x ≡ false) a → All (λ x. is_mark x ≡ false) b → Ends r → Ends s → a ++ r ≡ b ++ s → (a ≡ b) × (r ≡ s)
+pub facts_unique : (a b r s : List ℕ) → AllByRecursion (λ x. is_mark x ≡ false) a → AllByRecursion (λ x. is_mark x ≡ false) b → Ends r → Ends s → a ++ r ≡ b ++ s → (a ≡ b) × (r ≡ s)
 facts_unique [] [] r s pa pb er es e = (refl, e)
 facts_unique [] (y ∷ b) [] s pa pb er es e = let no : ◌≡◌ {A = ℕ} 0 1 = cc in absurd (omega arith)
 facts_unique [] (y ∷ b) (x ∷ r) s pa pb er es e =

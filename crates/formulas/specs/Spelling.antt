@@ -1,6 +1,6 @@
 -- How a formula is written, how deep it is and how large. Assumes nothing.
 use Rattle.std.specs.Prelude.{◌≡◌, ℕ, suc, ◌+◌, ◌<◌, max, Bool, false, ◌||◌, List, [], ◌∷◌, ◌++◌, length, ◌==◌}
-use Rattle.std.specs.List.{AllByRecursion as All}
+use Rattle.std.specs.List.{AllByRecursion}
 use Rattle.formulas.specs.Formulas.{Formula, Formulas, fact, neg, all, none, more}
 
 -- The bytes that mean something in a formula: `!`, `(`, `)` and `&`.
@@ -9,7 +9,7 @@ is_mark b = b == 33 || b == 40 || b == 41 || b == 38
 
 -- The text of a fact has one byte or more, and no mark.
 abbrev pub FactText : List ℕ → Type 0
-FactText text = (0 < length text) × All (λ b. is_mark b ≡ false) text
+FactText text = (0 < length text) × AllByRecursion (λ b. is_mark b ≡ false) text
 
 abbrev mutual
   -- Something is so of every fact of a formula.

@@ -32,7 +32,7 @@ permitted-is above sight (Some l) k is =
     nothing e = let z : ◌≡◌ {A = ℕ} 0 1 = cc in omega arith
 
 module _ (a : Above) (l : Line) (read : true ≡ legible l) (k : Letter) (let_through : Some k ≡ permitted a.letter a.sight (letter_on l)) where
-  k_here : letter_on l ≡ Some k
+  pub k_here : letter_on l ≡ Some k
   k_here = (permitted-is a.letter a.sight (letter_on l) k (sym let_through)).0
 
   k_may : MayCome a.letter a.sight k
@@ -53,5 +53,9 @@ module _ (a : Above) (l : Line) (read : true ≡ legible l) (k : Letter) (let_th
   pub nothing-wrong : (n : ℕ) → n ≡ fields_of k → true ≡ eqb (length (fields l)) n → (w : Refusal) → LayoutFault a l w → ⊥
   nothing-wrong n asked right w f = (only-count w f).1 (eqb-true (length (fields l)) n (sym right) ∙ asked)
 
-  pub goes_on : (t : Bool) → t ≡ says_sight l → ◌≡◌ {A = Above} (record { letter = Some k; sight = a.sight || t }) (after a l)
-  goes_on t is = let here = k_here in cc
+-- what stands above the line below, from its two parts
+pub goes_on : (a b : Above) (l : Line) (k : Letter) → letter_on l ≡ Some k → b.letter ≡ Some k → b.sight ≡ (a.sight || says_sight l) → b ≡ after a l
+goes_on a b l k here letter sight = of_parts b.letter b.sight (letter ∙ sym here) sight
+  where
+    of_parts : (o : Option Letter) (t : Bool) → o ≡ letter_on l → t ≡ (a.sight || says_sight l) → ◌≡◌ {A = Above} (record { letter = o; sight = t }) (after a l)
+    of_parts o t p q = cc

@@ -4,13 +4,15 @@ use Rattle.std.proofs.lemmas.List.{take_all}
 use Rattle.sheets.specs.declared.faults.Fault.{Fault}
 use Rattle.sheets.specs.declared.faults.Sheet.TheVariants.{Depot}
 use Rattle.sheets.specs.declared.layout.Above.{Above}
+use Rattle.sheets.specs.declared.letters.Letter.{Letter}
 use Rattle.sheets.specs.declared.letters.Letter.TheVariants.{Goal}
 use Rattle.sheets.specs.declared.refusals.Refusal.{Refusal}
 use Rattle.sheets.specs.declared.refusals.Refusal.TheVariants.{OverLimit, NoGoal}
 use Rattle.sheets.specs.Faults.{NoLater, Lowest}
 use Rattle.sheets.specs.Layout.{depot_limit, letter_on, says_sight, last_letter, is_sight, above_of, after, LayoutFault, Unfinished, LayoutRefused, LaidOut}
 use Rattle.sheets.specs.Lines.{Line, lines_of}
-use Rattle.sheets.specs.Refusals.{rank_of}
+use Rattle.sheets.specs.Refusals.{number_of, rank_of}
+use Rattle.sheets.proofs.Judged.{goes_on}
 use Rattle.sheets.proofs.Places.{nth_here, drop-next, take_next, nth_within}
 use Rattle.sheets.proofs.Sheetwise.{Late, Clear, clear_none, clear-more, line_refused, end_refused, end-right}
 
@@ -37,6 +39,16 @@ sight_push (m ∷ ls) l = ap (λ t. says_sight m || t) (sight_push ls l) ∙ sym
 
 above-push : (ls : List Line) (l : Line) → above_of (ls ++ l ∷ []) ≡ after (above_of ls) l
 above-push ls l = let a = last-push ls l in let b = sight_push ls l in cc
+
+-- the same from the parts of what stands above
+pub above_of-push : (ls : List Line) (l : Line) (k : Letter) (a : Above) → letter_on l ≡ Some k → a.letter ≡ Some k → a.sight ≡ (is_sight ls || says_sight l) → a ≡ above_of (ls ++ l ∷ [])
+above_of-push ls l k a here letter sight = goes_on (above_of ls) a l k here letter sight ∙ sym (above-push ls l)
+
+-- what is wrong with the layout of a line is told before anything that is wrong with its fields
+pub layout_first : (a : Above) (l : Line) (w : Refusal) → LayoutFault a l w → number_of w < 5
+layout_first a l w (inl f) = subst (λ u. number_of u < 5) (sym f.0) (omega arith)
+layout_first a l w (inr (inl f)) = subst (λ u. number_of u < 5) (sym f.0) (omega arith)
+layout_first a l w (inr (inr f)) = subst (λ u. number_of u < 5) (sym f.0) (omega arith)
 
 -- the want of a goal is told last
 pub late : Late Wrong Unfinished

@@ -1,6 +1,6 @@
 -- What holds of every sheet. Assumes nothing.
 use Rattle.std.specs.Prelude.{◌≡◌, ℕ, ◌<◌, true, cond, List, [], ◌∷◌, ◌++◌, length}
-use Rattle.std.specs.List.{flat_map, AllByRecursion as All}
+use Rattle.std.specs.List.{flat_map, AllByRecursion}
 use Rattle.std.specs.Str.Iter.{LacksByte}
 use Rattle.sheets.specs.declared.refusals.Refusal.{Refusal}
 use Rattle.sheets.specs.Layout.{LayoutRefused}
@@ -20,7 +20,7 @@ EndsInOrder (l ∷ m ∷ ls) = (l.ended ≡ true) × EndsInOrder (m ∷ ls)
 -- line, and only the last can lack its end.
 pub record Split (s : List ℕ) (ls : List Line) : Type 0 where
   pub whole : flat_map as_written ls ≡ s
-  pub single : All (λ l. LacksByte line_end l.text) ls
+  pub single : AllByRecursion (λ l. LacksByte line_end l.text) ls
   pub ends : EndsInOrder ls
 
 -- Every sheet is so split.

@@ -1,5 +1,5 @@
 // The layout of a depot sheet: its bytes, letters and numbers of fields, judged line by line below the lines above.
-ghost use Rattle.std.specs.Prelude.{◌≡◌, [], Some, Decides, MatchResult};
+ghost use Rattle.std.specs.Prelude.{◌≡◌, ◌||◌, [], Some, Decides, MatchResult};
 ghost use Rattle.sheets.specs.declared.faults.Sheet.TheVariants.{Depot};
 ghost use Rattle.sheets.specs.declared.letters.Letter.TheVariants.{Goal};
 ghost use Rattle.sheets.specs.Faults.{Lowest};
@@ -47,7 +47,7 @@ pub fn is_legible(line: &Line) -> bool
 }
 
 // Whether a line says that the sheet is of the sight kind.
-fn says_sight(line: &Line) -> bool
+pub fn says_sight(line: &Line) -> bool
     ensures { result ≡ says_sight (shown line.now) }
 {
     bytes::same(line.text, b"K\tsight")
@@ -55,7 +55,7 @@ fn says_sight(line: &Line) -> bool
 
 impl Above {
     // Above line 1.
-    fn nothing() -> Above
+    pub fn nothing() -> Above
         ensures { result ≡ above_of [] }
     {
         Above {
@@ -65,7 +65,7 @@ impl Above {
     }
 
     // Whether the line right above is the goal.
-    fn is_goal(&self) -> bool
+    pub fn is_goal(&self) -> bool
         ensures { Decides result (self.now.letter ≡ Some Goal) }
     {
         matches!(self.letter, Some(Letter::Goal))
@@ -82,9 +82,9 @@ impl Above {
         letter_here(first[0], self.letter, self.sight)
     }
 
-    // What stands above the next line, or the lowest thing that is wrong with this one.
-    pub fn judge(&self, line: &Line) -> Result<Above, Refusal>
-        ensures { MatchResult result (λ next. ((w : Refusal) → LayoutFault self.now (shown line.now) w → ⊥) × (next ≡ after self.now (shown line.now))) (λ w. Lowest (LayoutFault self.now (shown line.now)) w) }
+    // The letter of a line that is laid out as it should be, or the lowest thing that is wrong with its layout.
+    pub fn judge_letter(&self, line: &Line) -> Result<Letter, Refusal>
+        ensures { MatchResult result (λ k. (letter_on (shown line.now) ≡ Some k) × ((w : Refusal) → LayoutFault self.now (shown line.now) w → ⊥)) (λ w. Lowest (LayoutFault self.now (shown line.now)) w) }
     {
         if !is_legible(line) {
             return Err(Refusal::BadLine);
@@ -95,11 +95,28 @@ impl Above {
         if !pieces::has_pieces(line.text, TAB, letter.fields()) {
             return Err(Refusal::FieldCount);
         }
-        let sight = self.sight | says_sight(line);
-        Ok(Above {
+        Ok(letter)
+    }
+
+    // What stands above the next line, if this one has a letter.
+    pub fn below(&self, line: &Line, letter: Letter) -> Above
+        ensures letter { result.letter ≡ Some letter }
+        ensures sight { result.sight ≡ (self.now.sight || says_sight (shown line.now)) }
+    {
+        Above {
             letter: Some(letter),
-            sight,
-        })
+            sight: self.sight || says_sight(line),
+        }
+    }
+
+    // What stands above the next line, or the lowest thing that is wrong with this one.
+    pub fn judge(&self, line: &Line) -> Result<Above, Refusal>
+        ensures { MatchResult result (λ next. ((w : Refusal) → LayoutFault self.now (shown line.now) w → ⊥) × (next ≡ after self.now (shown line.now))) (λ w. Lowest (LayoutFault self.now (shown line.now)) w) }
+    {
+        match self.judge_letter(line) {
+            Ok(letter) => Ok(self.below(line, letter)),
+            Err(refusal) => Err(refusal),
+        }
     }
 }
 

@@ -1,7 +1,7 @@
 -- How often numbers are in lists, and what a list of tests tells. Assumes nothing.
 use Rattle.std.proofs.Common.{◌≡◌, ℕ, suc, ◌+◌, ◌<◌, ◌≤◌, Bool, true, false, ◌||◌, eqb, ◌⊎◌, List, [], ◌∷◌, ◌++◌, length, sym, refl, ap, ◌∙◌, inl, inr, arith}
 use mathlib.Core.Bool.{or_assoc}
-use Rattle.std.specs.List.{flat_map, AllByRecursion as All}
+use Rattle.std.specs.List.{flat_map, AllByRecursion}
 use Rattle.std.proofs.lemmas.Bool.{cases_Bool, eqb-true, eq-eqb, or_cases, or_left, or_right, false≢true}
 use Rattle.walkthroughs.specs.Firing.{any}
 use Rattle.walkthroughs.specs.Lists.{one, times, SameMoves, Within}
@@ -45,7 +45,7 @@ length-within (x ∷ a) b w = shorter (take_out x b (omega (arith, w x, one-is x
     shorter (rest, same, long) next = omega (arith, next rest (λ z. omega (arith, same z, w z)))
 
 -- what holds of each number in a list
-pub all-from_times : (P : ℕ → Type 0) (a : List ℕ) → ((x : ℕ) → 0 < times x a → P x) → All P a
+pub all-from_times : (P : ℕ → Type 0) (a : List ℕ) → ((x : ℕ) → 0 < times x a → P x) → AllByRecursion P a
 all-from_times P [] h = tt
 all-from_times P (x ∷ a) h = (h x (omega (arith, one-is x x refl)), all-from_times P a (λ z k. h z (omega arith)))
 

@@ -2,7 +2,7 @@
 use Rattle.std.proofs.Common.{◌≡◌, ℕ, suc, ◌<◌, Bool, true, false, cond, not, ◌&&◌, ◌||◌, List, [], ◌∷◌, ◌++◌, get_or, sym, refl, ap, ◌∙◌, inl, inr, arith}
 use mathlib.Core.Path.{fun_ext}
 use mathlib.Core.Bool.{and-true}
-use Rattle.std.specs.List.{flat_map, AllByRecursion as All}
+use Rattle.std.specs.List.{flat_map, AllByRecursion}
 use Rattle.std.proofs.lemmas.Bool.{cases_Bool, or_left, true≢false}
 use Rattle.walkthroughs.specs.Depots.{Depot, Effect, State, Carrying, move_of, truth_of, reads}
 use Rattle.walkthroughs.specs.Firing.{any, fires, fired_by, fired, adds, removes, after, clash, contradictory, one_by_one, Closed, start_of}
@@ -39,7 +39,7 @@ same-fired_by : (d : Depot) (s t : State) (list : Effect → List ℕ) (m : ℕ)
 unfolding fired_by
 same-fired_by d s t list m alike = same-effects d s t list (move_of d m).effects (λ e. alike (suc e))
 
-pub same-fired : (d : Depot) (s t : State) (list : Effect → List ℕ) (ms : List ℕ) → All (Alike d s t) ms → fired d t list ms ≡ fired d s list ms
+pub same-fired : (d : Depot) (s t : State) (list : Effect → List ℕ) (ms : List ℕ) → AllByRecursion (Alike d s t) ms → fired d t list ms ≡ fired d s list ms
 same-fired d s t list [] h = refl
 same-fired d s t list (m ∷ ms) h = ap (λ l. l ++ fired d t list ms) (same-fired_by d s t list m h.0) ∙ ap (λ l. fired_by d s list m ++ l) (same-fired d s t list ms h.1)
 
@@ -49,7 +49,7 @@ contradictory-within d s a b w h = elim (cases_Bool (contradictory d s a)) [ inr
     bigger : contradictory d s a ≡ true → contradictory d s b ≡ true
     bigger k = fired-within d s (λ e. e.settings) (λ g. any (λ f. d.carries g f) (fired d s (λ e. e.strikes) b)) a b w (any-weaker (λ g. any (λ f. d.carries g f) (fired d s (λ e. e.strikes) a)) (λ g. any (λ f. d.carries g f) (fired d s (λ e. e.strikes) b)) (λ g. fired-within d s (λ e. e.strikes) (λ f. d.carries g f) a b w) (fired d s (λ e. e.settings) a) k)
 
-pub contradictory-alike : (d : Depot) (s t : State) (ms : List ℕ) → All (Alike d s t) ms → contradictory d t ms ≡ contradictory d s ms
+pub contradictory-alike : (d : Depot) (s t : State) (ms : List ℕ) → AllByRecursion (Alike d s t) ms → contradictory d t ms ≡ contradictory d s ms
 contradictory-alike d s t ms h = ap (λ l. clash d l (fired d t (λ e. e.strikes) ms)) (same-fired d s t (λ e. e.settings) ms h) ∙ ap (λ l. clash d (fired d s (λ e. e.settings) ms) l) (same-fired d s t (λ e. e.strikes) ms h)
 
 pub after_none : (d : Depot) (s : State) → after d s [] ≡ s
@@ -65,7 +65,7 @@ unfolding after
 after-order d s a b same = fun_ext (λ f. ap (λ x. x || (s f && not (removes d s a f))) (fired-order d s (λ e. e.settings) (λ g. d.carries g f) a b same) ∙ ap (λ x. adds d s b f || (s f && not x)) (fired-order d s (λ e. e.strikes) (λ g. d.carries f g) a b same))
 
 -- moves that fire alike do alike
-after-alike : (d : Depot) (s t : State) (ms : List ℕ) (f : ℕ) → All (Alike d s t) ms → after d t ms f ≡ (adds d s ms f || (t f && not (removes d s ms f)))
+after-alike : (d : Depot) (s t : State) (ms : List ℕ) (f : ℕ) → AllByRecursion (Alike d s t) ms → after d t ms f ≡ (adds d s ms f || (t f && not (removes d s ms f)))
 unfolding after
 after-alike d s t ms f h = ap (λ l. any (λ g. d.carries g f) l || (t f && not (removes d t ms f))) (same-fired d s t (λ e. e.settings) ms h) ∙ ap (λ l. adds d s ms f || (t f && not (any (λ g. d.carries f g) l))) (same-fired d s t (λ e. e.strikes) ms h)
 

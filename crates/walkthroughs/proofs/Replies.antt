@@ -1,6 +1,6 @@
 -- Every list of calls has one run, the computed one; so have the worked lines. Assumes nothing.
 use Rattle.std.proofs.Common.{◌≡◌, ℕ, Bool, true, false, cond, List, [], ◌∷◌, map, length, get_or, drop, Some, None, Option, sym, refl, ap, ◌∙◌}
-use Rattle.std.specs.List.{AllByRecursion as All}
+use Rattle.std.specs.List.{AllByRecursion}
 use Rattle.std.proofs.lemmas.Bool.{cond_both, cond-false, cond-true, eqb-true, eq-eqb}
 use Rattle.std.proofs.lemmas.Bool.Decides.{not_from_Decides}
 use Rattle.sheets.specs.declared.refusals.Refusal.{Refusal}
@@ -90,7 +90,7 @@ carrying_Q = carrying_among plain_same facts_q (λ a. eq-eqb a.matter a.matter r
 row_runs : (r : Row) → Carrying r.depot → outcome r ≡ expected r → IsRun r
 row_runs r law e = (record { stands = left_by r.depot (start_of r.depot) r.calls }, rw (ap (λ x. x.0) e) at (runs r.depot law (begun r.depot) r.calls), ap (λ x. x.1) e)
 
-rows_run : (rows : List Row) → All (λ r. Carrying r.depot) rows → map outcome rows ≡ map expected rows → All IsRun rows
+rows_run : (rows : List Row) → AllByRecursion (λ r. Carrying r.depot) rows → map outcome rows ≡ map expected rows → AllByRecursion IsRun rows
 rows_run [] laws e = tt
 rows_run (r ∷ rows) laws e = (row_runs r laws.0 (ap (λ l. get_or l 0 (outcome r)) e), rows_run rows laws.1 (ap (drop 1) e))
 

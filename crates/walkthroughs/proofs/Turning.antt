@@ -1,6 +1,6 @@
 -- A step refused as disturbed: its named set can be done, and turns the named part. Assumes nothing.
 use Rattle.std.proofs.Common.{◌≡◌, ℕ, suc, ◌<◌, List, [], ◌∷◌, length, refl, ap, ◌∙◌, inl, inr, arith}
-use Rattle.std.specs.List.{AllByRecursion as All}
+use Rattle.std.specs.List.{AllByRecursion}
 use Rattle.std.proofs.lemmas.List.{nil_from_length}
 use Rattle.std.proofs.lemmas.Bool.{cases_lt}
 use Rattle.sheets.specs.declared.refusals.Refusal.TheVariants.{Disturbed}
@@ -27,7 +27,7 @@ pub single_moves : (moves : List ℕ) → moves_of (singles moves) ≡ moves
 single_moves [] = refl
 single_moves (m ∷ moves) = ap (λ l. m ∷ l) (single_moves moves)
 
-pub all-single : (moves : List ℕ) → All (λ g. 0 < length g) (singles moves)
+pub all-single : (moves : List ℕ) → AllByRecursion (λ g. 0 < length g) (singles moves)
 all-single [] = tt
 all-single (m ∷ moves) = (omega arith, all-single moves)
 

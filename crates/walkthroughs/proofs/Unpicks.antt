@@ -1,6 +1,6 @@
 -- An accepted step can be unpicked, and so can a row of accepted steps. Assumes nothing.
 use Rattle.std.proofs.Common.{◌≡◌, ℕ, ◌<◌, List, [], ◌∷◌, ◌++◌, length, sym, ap, ◌∙◌, arith}
-use Rattle.std.specs.List.{AllByRecursion as All}
+use Rattle.std.specs.List.{AllByRecursion}
 use Rattle.walkthroughs.specs.Depots.{Depot, State, Carrying, reads}
 use Rattle.walkthroughs.specs.Firing.{after, one_by_one}
 use Rattle.walkthroughs.specs.Laws.{UnpickingsPass}
@@ -20,7 +20,7 @@ module _ (d : Depot) (law : Carrying d) (s : State) (moves : List ℕ) (step : A
   beside : (a g : List ℕ) (m : ℕ) → 0 < times m g → Within (a ++ g) moves → Within (m ∷ a) moves
   beside a g m there w x = omega (arith, w x, times-append x a g, one-within x m g there)
 
-  group_alike : (a g : List ℕ) → Within (a ++ g) moves → All (Alike d s (after d s a)) g
+  group_alike : (a g : List ℕ) → Within (a ++ g) moves → AllByRecursion (Alike d s (after d s a)) g
   group_alike a g w = all-from_times (Alike d s (after d s a)) g (λ m there. among a m (beside a g m there w))
 
   front : (a g : List ℕ) → Within (a ++ g) moves → Within a moves
@@ -42,14 +42,14 @@ module _ (d : Depot) (law : Carrying d) (s : State) (moves : List ℕ) (step : A
           rw (one_way done (λ x. omega (arith, w x, order x, times-append x a g, times-append x a done, times-append x done (m ∷ rest)))) (among (a ++ done) m (λ x. omega (arith, w x, order x, times-append x a g, times-append x a done, times-append x done (m ∷ rest))) e ∙ sym (among a m (λ x. omega (arith, w x, order x, times-append x a g, times-append x done (m ∷ rest))) e))
 
   -- its groups after the moves a
-  unpick : (a : List ℕ) (groups : List (List ℕ)) → All (λ g. 0 < length g) groups → SameMoves (a ++ moves_of groups) moves → Passes d (after d s a) groups (after d s moves)
+  unpick : (a : List ℕ) (groups : List (List ℕ)) → AllByRecursion (λ g. 0 < length g) groups → SameMoves (a ++ moves_of groups) moves → Passes d (after d s a) groups (after d s moves)
   unpick a [] some same = after-order d s moves a (λ x. omega (arith, same x, times-append x a []))
   unpick a (g ∷ groups) some same = (accepted_part a g some.0 so_far, rw (after-after d law s a g (contradictory-within d s (a ++ g) moves so_far step.agreed) (group_alike a g so_far)) (unpick (a ++ g) groups some.1 (λ x. omega (arith, same x, times-append x a (g ++ moves_of groups), times-append x g (moves_of groups), times-append x (a ++ g) (moves_of groups), times-append x a g))))
     where
       so_far : Within (a ++ g) moves
       so_far x = omega (arith, same x, times-append x a (g ++ moves_of groups), times-append x g (moves_of groups), times-append x a g)
 
-  pub unpicked_step : (groups : List (List ℕ)) → All (λ g. 0 < length g) groups → SameMoves (moves_of groups) moves → Passes d s groups (after d s moves)
+  pub unpicked_step : (groups : List (List ℕ)) → AllByRecursion (λ g. 0 < length g) groups → SameMoves (moves_of groups) moves → Passes d s groups (after d s moves)
   unpicked_step groups some same = rw (after_none d s) at (unpick [] groups some same)
 
 -- steps after steps

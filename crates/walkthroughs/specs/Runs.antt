@@ -1,6 +1,6 @@
 -- Calls on a walkthrough, what they answer and what they leave, and the law of whole runs (executions). Assumes nothing.
 use Rattle.std.specs.Prelude.{◌≡◌, ℕ, Bool, not, List, [], ◌∷◌, ◌++◌, map, length}
-use Rattle.std.specs.List.{AllByRecursion as All}
+use Rattle.std.specs.List.{AllByRecursion}
 use Rattle.sheets.specs.declared.refusals.Refusal.{Refusal}
 use Rattle.sheets.specs.declared.refusals.Refusal.TheVariants.{Disturbed, UnknownNumber}
 use Rattle.walkthroughs.specs.Depots.{Depot, State, Listed, part_of, truth_of}
@@ -72,7 +72,7 @@ IsAccepted (refused w) = ⊥
 pub record AllAccepted (d : Depot) (h : Held) (steps : List (List ℕ)) (left : Held) : Type 0 where
   pub answers : List Answer
   pub ran : Ran d h (map step steps) answers left
-  pub each : All IsAccepted answers
+  pub each : AllByRecursion IsAccepted answers
 
 -- The moves of a list, sent as steps of one move, are all accepted, and after them truth tells the opposite of what it
 -- would have told before them of the formula with a number.

@@ -1,6 +1,6 @@
 -- Steps one after the other, and how they can be unpicked (serialized). Assumes nothing.
 use Rattle.std.specs.Prelude.{◌≡◌, ℕ, ◌<◌, List, [], ◌∷◌, ◌++◌, map, length}
-use Rattle.std.specs.List.{flat_map, AllByRecursion as All}
+use Rattle.std.specs.List.{flat_map, AllByRecursion}
 use Rattle.walkthroughs.specs.Depots.{Depot, State}
 use Rattle.walkthroughs.specs.Firing.{after}
 use Rattle.walkthroughs.specs.Lists.{SameMoves}
@@ -19,7 +19,7 @@ moves_of steps = flat_map (λ moves. moves) steps
 -- which together list every move of it as often as it does and no other, in any grouping and order.
 abbrev pub Unpicking : List (List ℕ) → List (List ℕ) → Type 0
 Unpicking [] unpicked = unpicked ≡ []
-Unpicking (moves ∷ steps) unpicked = (groups later : List (List ℕ)) × (unpicked ≡ groups ++ later) × (0 < length groups) × All (λ group. 0 < length group) groups × SameMoves (moves_of groups) moves × Unpicking steps later
+Unpicking (moves ∷ steps) unpicked = (groups later : List (List ℕ)) × (unpicked ≡ groups ++ later) × (0 < length groups) × AllByRecursion (λ group. 0 < length group) groups × SameMoves (moves_of groups) moves × Unpicking steps later
 
 -- Steps of one move each.
 abbrev pub singles : List ℕ → List (List ℕ)

@@ -1,6 +1,6 @@
 -- Lines of three depots worked through by hand: rows of one table. Assumes nothing.
 use Rattle.std.specs.Prelude.{◌≡◌, ℕ, zero, suc, true, List, [], ◌∷◌, map, filter}
-use Rattle.std.specs.List.{AllByRecursion as All}
+use Rattle.std.specs.List.{AllByRecursion}
 use Rattle.sheets.specs.declared.refusals.Refusal.TheVariants.{Contradictory, Disturbed, NeedFalse, UnknownNumber}
 use Rattle.walkthroughs.specs.Depots.{Depot}
 use Rattle.walkthroughs.specs.Examples.{depot_g, depot_q, depot_s}
@@ -56,4 +56,4 @@ IsRun r = (left : Held) × Ran r.depot (begun r.depot) r.calls r.answers left ×
 
 -- Every line is one.
 abbrev pub WorkedRuns : Type 0
-WorkedRuns = All IsRun table
+WorkedRuns = AllByRecursion IsRun table

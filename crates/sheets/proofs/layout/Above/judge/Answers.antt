@@ -1,13 +1,9 @@
 use Rattle.sheets.specs.Lines.{shown}
-use Rattle.sheets.proofs.Judged.{count-wrong, nothing-wrong, goes_on}
+use Rattle.sheets.proofs.Judged.{goes_on}
 use Rattle.sheets.proofs.layout.Above.judge.Goals as goal
 
-pub returns-then-not-has_pieces : goal.returns-then-not-has_pieces
-returns-then-not-has_pieces c =
-    count-wrong c.args.self.now (shown c.args.line.now) c.if-not-is_legible.ensures c.in-Some.letter c.in-Some.ensures c.fields.result c.fields.ensures c.if-not-has_pieces.ensures
-
-pub returns : goal.returns
-returns c = (
-  nothing-wrong c.args.self.now (shown c.args.line.now) c.if-not-is_legible.ensures c.in-Some.letter c.in-Some.ensures c.fields.result c.fields.ensures c.if-not-has_pieces.ensures,
-  goes_on c.args.self.now (shown c.args.line.now) c.if-not-is_legible.ensures c.in-Some.letter c.in-Some.ensures c.says_sight.result c.says_sight.ensures,
+pub returns-in-Ok : goal.returns-in-Ok
+returns-in-Ok c = (
+  c.in-Ok.ensures.1,
+  goes_on c.args.self.now c.below.result (shown c.args.line.now) c.in-Ok.letter c.in-Ok.ensures.0 c.below.ensures.letter c.below.ensures.sight,
 )
