@@ -1,5 +1,5 @@
 -- What is asked of the facts that a sheet lists, whatever their kind. Assumes nothing.
-use Rattle.std.specs.Prelude.{ℕ, Bool, List, [], ◌∷◌, Some, None, Ok, Err, Option, Result}
+use Rattle.std.specs.Prelude.{ℕ, Bool, ◌||◌, List, [], ◌∷◌, Some, None, Ok, Err, Option, Result}
 use Rattle.sheets.specs.Listed.{first_from}
 use Rattle.facts.specs.declared.names.NoFact.{NoFact}
 use Rattle.facts.specs.declared.names.NoFact.TheVariants.{NotListed}
@@ -23,3 +23,9 @@ abbrev pub marked : {F : Type 0} → (F → Bool) → List F → List Bool → L
 marked test [] row = row
 marked test (f ∷ fs) [] = []
 marked test (f ∷ fs) (b ∷ row) = test f ∷ marked test fs row
+
+-- A row with one more mark at the place of each fact that passes a test, as far as both reach; other marks stay.
+abbrev pub also_marked : {F : Type 0} → (F → Bool) → List F → List Bool → List Bool
+also_marked test [] row = row
+also_marked test (f ∷ fs) [] = []
+also_marked test (f ∷ fs) (b ∷ row) = (b || test f) ∷ also_marked test fs row

@@ -1,6 +1,7 @@
 // Facts and their kinds: how a fact is read, which facts are the same, which carries which, which are always true.
 #![tactic(auto)]
 
+pub mod added_marks;
 pub mod kinds;
 pub mod listed;
 pub mod meaning;

@@ -1,5 +1,5 @@
 // The plain kind: a fact is a listed matter and carries only itself.
-ghost use Rattle.std.specs.Prelude.{codes};
+ghost use Rattle.std.specs.Prelude.{codes, refl};
 ghost use Rattle.facts.specs.Plain.{plain_reading, plain_same, plain_certain};
 ghost use Rattle.facts.specs.Texts.{matters_of};
 ghost use Rattle.std.proofs.Common.{rules};
@@ -26,11 +26,15 @@ impl Kind for Plain {
 
     ghost reading = { λ names. plain_reading (matters_of names) };
 
+    ghost reading_under = { λ listing. plain_reading listing.matters };
+
     ghost alike = { plain_same };
 
     ghost carrying = { plain_same };
 
     ghost certain = { plain_certain };
+
+    ghost goes_by_texts = { λ names. refl };
 
     ghost reflexive = { Prim.search rules };
 

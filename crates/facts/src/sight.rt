@@ -1,5 +1,5 @@
 // The sight kind: a fact is up to five watchers and then a matter.
-ghost use Rattle.std.specs.Prelude.{◌≡◌, codes};
+ghost use Rattle.std.specs.Prelude.{◌≡◌, codes, refl};
 ghost use Rattle.facts.specs.Sight.{watchers_of, sight_reading, sight_same, sight_carries, sight_certain};
 ghost use Rattle.facts.specs.Texts.{zones_of, matters_of};
 ghost use Rattle.facts.specs.Carrying.{sight_carries-refl, sight_carries-trans};
@@ -31,11 +31,15 @@ impl Kind for Sight {
 
     ghost reading = { λ names. sight_reading (zones_of names) (matters_of names) };
 
+    ghost reading_under = { λ listing. sight_reading listing.zones listing.matters };
+
     ghost alike = { sight_same };
 
     ghost carrying = { sight_carries };
 
     ghost certain = { sight_certain };
+
+    ghost goes_by_texts = { λ names. refl };
 
     ghost reflexive = { sight_carries-refl };
 
