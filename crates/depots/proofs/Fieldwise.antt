@@ -15,7 +15,7 @@ use Rattle.depots.specs.Troubles.{refusal_of, lower_of, FieldFault, LineFault, F
 abbrev pub Told : (Refusal → Type 0) → Option Refusal → Type 0
 Told Wrong r = MatchOption r ((w : Refusal) → Wrong w → ⊥) (λ w. Lowest Wrong w)
 
-nothing : {X : Type 0} {x : X} → None ≡ Some x → ⊥
+pub nothing : {X : Type 0} {x : X} → None ≡ Some x → ⊥
 nothing e = let z : ◌≡◌ {A = ℕ} 0 1 = cc in omega arith
 
 -- the rank of a trouble with a field: its number, and then the field
@@ -85,7 +85,7 @@ three-told second third fourth =
     unrivalled (Some w) = refl
 
 -- what is wrong with a field is told before a table that is full
-before-full : (field : ℕ) (ts : List (Option Trouble)) (w : Refusal) → FieldFault field ts w → number_of w < 9
+pub before-full : (field : ℕ) (ts : List (Option Trouble)) (w : Refusal) → FieldFault field ts w → number_of w < 9
 before-full field [] w f = absurd f
 before-full field (t ∷ ts) w (inr f) = before-full (field + 1) ts w f
 before-full field (t ∷ ts) w (inl is) = by_trouble t is

@@ -1,4 +1,12 @@
+pub mod Added
+pub mod Entered
 pub mod Fieldwise
+pub mod Formulaic
 pub mod Gathered
 pub mod Grown
+pub mod Kept
+pub mod Listings
 pub mod Numbers
+pub mod Told
+pub mod Viewed
+pub mod Walk

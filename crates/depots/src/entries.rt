@@ -31,7 +31,7 @@ pub fn list_name(
 }
 
 // Puts a text at the end of a list of them, or leaves the list as it was.
-fn push_text(heap: Global, texts: &mut Vec<Name>, text: &[u8]) -> bool
+pub(crate) fn push_text(heap: Global, texts: &mut Vec<Name>, text: &[u8]) -> bool
     ensures { MatchBool result (map text_of texts.new.items ≡ map text_of texts.old.items ++ text.now ∷ []) (texts.new.items ≡ texts.old.items) }
 {
     let Ok(name) = Name::new(heap, text) else {

@@ -11,6 +11,14 @@ use facts::names::{Names, NoFact};
 use sheets::listed::Name;
 use sheets::{listed, names};
 
+// The second, third and fourth field of a line, empty where the line has none.
+#[derive(Clone, Copy)]
+pub struct Fields<'a> {
+    pub second: &'a [u8],
+    pub third: &'a [u8],
+    pub fourth: &'a [u8],
+}
+
 // What is wrong with a field that lists a new name.
 pub fn new_name(listed: &[Name], text: &[u8]) -> Option<Trouble>
     ensures { result ≡ new_name (map text_of listed.now) text.now }

@@ -1,7 +1,7 @@
 // What can be wrong with the fields of a line, and which of it is told.
 ghost use Rattle.std.specs.Prelude.{◌≡◌, Bool, [], ◌∷◌, Some, None, MatchOption};
 ghost use Rattle.std.specs.Result as results;
-ghost use Rattle.depots.specs.Troubles.{refusal_of, lower_of, FieldFault, LineFault, Faultless};
+ghost use Rattle.depots.specs.Troubles.{refusal_of, lower_of, FieldFault, LineFault, Faultless, trouble_in};
 ghost use Rattle.sheets.specs.Faults.{Lowest};
 ghost use Rattle.sheets.specs.declared.refusals.Refusal.{Refusal as Told};
 
@@ -30,6 +30,16 @@ fn refusal(trouble: Option<Trouble>, field: usize) -> Option<Refusal>
         Some(Trouble::NotListed) => Some(Refusal::NotListed { field }),
         Some(Trouble::Twice) => Some(Refusal::Twice { field }),
         Some(Trouble::AlwaysTrue) => Some(Refusal::AlwaysTrue { field }),
+    }
+}
+
+// The trouble with what was read of a field, if there is one.
+pub(crate) fn trouble_in<T: Drop>(read: &Result<T, Trouble>) -> Option<Trouble>
+    ensures { result ≡ trouble_in read.now }
+{
+    match read {
+        Ok(_) => None,
+        Err(trouble) => Some(*trouble),
     }
 }
 

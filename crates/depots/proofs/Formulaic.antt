@@ -1,0 +1,71 @@
+-- What a field with a formula comes to: the formula that it spells is the only one. Assumes nothing.
+use Rattle.std.proofs.Common.{◌≡◌, ℕ, true, false, List, Some, None, Ok, Err, Result, sym, refl, ap, ◌∙◌, subst, arith}
+use Rattle.std.proofs.lemmas.Bool.{and_parts, and_from, both_ways}
+use Rattle.facts.specs.declared.names.NoFact.{NoFact}
+use Rattle.facts.specs.declared.names.NoFact.TheVariants as none
+use Rattle.formulas.specs.Formulas.{Formula, Formulas, fact, neg, all, none as no-formulas, more}
+use Rattle.formulas.specs.Reading.{Spells}
+use Rattle.formulas.specs.Resolving.{each_passes, each_passes_in, has_form, is_listed}
+use Rattle.formulas.proofs.Unique.{spelling_fixes}
+use Rattle.depots.specs.declared.formula_field.FormulaField.{FormulaField}
+use Rattle.depots.specs.declared.formula_field.FormulaField.TheVariants.{Read, Wrong}
+use Rattle.depots.specs.declared.troubles.Trouble.{Trouble}
+use Rattle.depots.specs.declared.troubles.Trouble.TheVariants.{NotItsForm, NotListed, Twice, AlwaysTrue}
+use Rattle.depots.specs.FormulaFields.{FormulaRead, trouble_of}
+use Rattle.depots.specs.Wrong.{FormulaWrong}
+
+-- a text spells one formula
+pub spells_one : (d e : ℕ) (text : List ℕ) (p q : Formula (List ℕ)) → Spells d text p → Spells e text q → p ≡ q
+spells_one d e text p q a b = spelling_fixes p q a.facts b.facts (a.text_is ∙ sym b.text_is)
+
+-- what is so of the formula that a text spells is so of every one
+pub of-every : (d : ℕ) (text : List ℕ) (p : Formula (List ℕ)) (P : Formula (List ℕ) → Type 0) → Spells d text p → P p → (q : Formula (List ℕ)) → Spells d text q → P q
+of-every d text p P a is q b = subst P (spells_one d d text p q a b) is
+
+module _ (number : List ℕ → Result ℕ NoFact) where
+  form_of_listed : (r : Result ℕ NoFact) → is_listed r ≡ true → has_form r ≡ true
+  form_of_listed (Ok n) listed = refl
+  form_of_listed (Err none.NotItsForm) listed = absurd (both_ways _ (refl {a = false}) listed)
+  form_of_listed (Err none.NotListed) listed = refl
+
+  mutual
+    -- listed facts have their form
+    formed : (p : Formula (List ℕ)) → each_passes (λ f. is_listed (number f)) p ≡ true → each_passes (λ f. has_form (number f)) p ≡ true
+    formed (fact f) listed = form_of_listed (number f) listed
+    formed (neg p) listed = formed p listed
+    formed (all ps) listed = formed-in ps listed
+
+    formed-in : (ps : Formulas (List ℕ)) → each_passes_in (λ f. is_listed (number f)) ps ≡ true → each_passes_in (λ f. has_form (number f)) ps ≡ true
+    formed-in no-formulas listed = refl
+    formed-in (more p ps) listed = let each = and_parts _ _ listed in and_from _ _ (formed p each.0) (formed-in ps each.1)
+
+  -- of what is wrong with a formula only one is
+  one-trouble : (text : List ℕ) (a b : Trouble) → FormulaWrong number text a → FormulaWrong number text b → a ≡ b
+  one-trouble text NotItsForm NotItsForm f g = refl
+  one-trouble text NotItsForm NotListed f g = absurd (both_ways _ (f g.0 g.1) g.2)
+  one-trouble text NotItsForm Twice f g = absurd g
+  one-trouble text NotItsForm AlwaysTrue f g = absurd g
+  one-trouble text NotListed NotItsForm f g = absurd (both_ways _ (g f.0 f.1) f.2)
+  one-trouble text NotListed NotListed f g = refl
+  one-trouble text NotListed Twice f g = absurd g
+  one-trouble text NotListed AlwaysTrue f g = absurd g
+  one-trouble text Twice b f g = absurd f
+  one-trouble text AlwaysTrue b f g = absurd f
+
+  -- a formula of listed facts has nothing wrong
+  none-wrong : (text : List ℕ) (p : Formula (List ℕ)) → Spells 8 text p → each_passes (λ f. is_listed (number f)) p ≡ true → (a : Trouble) → FormulaWrong number text a → ⊥
+  none-wrong text p spells listed NotItsForm f = both_ways _ (f p spells) (formed p listed)
+  none-wrong text p spells listed NotListed f = both_ways _ f.3 (of-every 8 text p (λ q. each_passes (λ f. is_listed (number f)) q ≡ true) spells listed f.0 f.1)
+  none-wrong text p spells listed Twice f = f
+  none-wrong text p spells listed AlwaysTrue f = f
+
+  -- what was found of a field is what is wrong with it
+  pub formula_found : (text : List ℕ) (x : FormulaField) → FormulaRead number text x → (a : Trouble) → (FormulaWrong number text a → trouble_of x ≡ Some a) × (trouble_of x ≡ Some a → FormulaWrong number text a)
+  formula_found text (Read f size) read a = (λ wrong. absurd (none-wrong text read.0 read.1 read.2.0 a wrong), λ is. absurd (nothing is))
+    where
+      nothing : {X : Type 0} {x : X} → None ≡ Some x → ⊥
+      nothing e = let z : ◌≡◌ {A = ℕ} 0 1 = cc in omega arith
+  formula_found text (Wrong b) read a = (λ wrong. ap Some (one-trouble text b a read wrong), λ is. subst (FormulaWrong number text) (inner is) read)
+    where
+      inner : Some b ≡ Some a → b ≡ a
+      inner e = cc

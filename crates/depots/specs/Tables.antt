@@ -1,0 +1,97 @@
+-- The tables that the lines of a depot sheet fill. Assumes nothing.
+use Rattle.std.specs.Prelude.{ℕ, List, [], map, take, vec_items}
+use Rattle.sheets.specs.Listed.{text_of}
+use Rattle.facts.specs.declared.kinds.Kind.{Ghosts}
+use Rattle.facts.specs.Texts.{Listing, listing_of}
+use Rattle.formulas.specs.Formulas.{Formula}
+use Rattle.formulas.specs.Shapes.{numbers}
+use Rattle.depots.specs.declared.depot.Depot.{Depot}
+use Rattle.depots.specs.declared.depot.Effect.{Effect as KeptEffect}
+use Rattle.depots.specs.declared.depot.Move.{Move as KeptMove}
+use Rattle.depots.specs.Settings.{numbers_of}
+
+-- An effect (a conditional effect): its condition, told by its formula number, and the facts that it sets and strikes.
+pub record Effect : Type 0 where
+  pub condition : ℕ
+  pub settings : List ℕ
+  pub strikes : List ℕ
+
+-- A move (an action): its need (precondition), told by its formula number, and how many effects stand before its own. Its
+-- effects go on to those of the next move.
+pub record Move : Type 0 where
+  pub need : ℕ
+  pub effects_before : ℕ
+
+-- The tables: zones (agents) and matters (propositions) by their texts, the listed facts (atoms) with their texts, the
+-- numbers of the started facts, the names of the moves, the moves, their effects, the formulas (needs, conditions and the
+-- goal) with how large they are together, and the number of the goal's formula, 0 while there is none.
+pub record Tables (F : Type 0) : Type 0 where
+  pub zones : List (List ℕ)
+  pub matters : List (List ℕ)
+  pub facts : List F
+  pub texts : List (List ℕ)
+  pub started : List ℕ
+  pub names : List (List ℕ)
+  pub moves : List Move
+  pub effects : List Effect
+  pub formulas : List (Formula ℕ)
+  pub size : ℕ
+  pub goal : ℕ
+
+-- Tables with nothing in them: those of an empty depot.
+abbrev pub no_tables : {F : Type 0} → Tables F
+no_tables = record { zones = []; matters = []; facts = []; texts = []; started = []; names = []; moves = []; effects = []; formulas = []; size = 0; goal = 0 }
+
+module _ {F : Type 0} (t : Tables F) where
+  -- The zones and matters, under which texts are read.
+  abbrev pub listing : Listing
+  listing = record { zones = t.zones; matters = t.matters }
+
+  -- The same tables but for one or two.
+  abbrev pub with_zones : List (List ℕ) → Tables F
+  with_zones new = record { zones = new; matters = t.matters; facts = t.facts; texts = t.texts; started = t.started; names = t.names; moves = t.moves; effects = t.effects; formulas = t.formulas; size = t.size; goal = t.goal }
+
+  abbrev pub with_matters : List (List ℕ) → Tables F
+  with_matters new = record { zones = t.zones; matters = new; facts = t.facts; texts = t.texts; started = t.started; names = t.names; moves = t.moves; effects = t.effects; formulas = t.formulas; size = t.size; goal = t.goal }
+
+  abbrev pub with_facts : List F → List (List ℕ) → Tables F
+  with_facts new spelled = record { zones = t.zones; matters = t.matters; facts = new; texts = spelled; started = t.started; names = t.names; moves = t.moves; effects = t.effects; formulas = t.formulas; size = t.size; goal = t.goal }
+
+  abbrev pub with_started : List ℕ → Tables F
+  with_started new = record { zones = t.zones; matters = t.matters; facts = t.facts; texts = t.texts; started = new; names = t.names; moves = t.moves; effects = t.effects; formulas = t.formulas; size = t.size; goal = t.goal }
+
+  abbrev pub with_moves : List (List ℕ) → List Move → Tables F
+  with_moves named new = record { zones = t.zones; matters = t.matters; facts = t.facts; texts = t.texts; started = t.started; names = named; moves = new; effects = t.effects; formulas = t.formulas; size = t.size; goal = t.goal }
+
+  abbrev pub with_effects : List Effect → Tables F
+  with_effects new = record { zones = t.zones; matters = t.matters; facts = t.facts; texts = t.texts; started = t.started; names = t.names; moves = t.moves; effects = new; formulas = t.formulas; size = t.size; goal = t.goal }
+
+  abbrev pub with_formulas : List (Formula ℕ) → ℕ → Tables F
+  with_formulas new large = record { zones = t.zones; matters = t.matters; facts = t.facts; texts = t.texts; started = t.started; names = t.names; moves = t.moves; effects = t.effects; formulas = new; size = large; goal = t.goal }
+
+  abbrev pub with_goal : ℕ → Tables F
+  with_goal new = record { zones = t.zones; matters = t.matters; facts = t.facts; texts = t.texts; started = t.started; names = t.names; moves = t.moves; effects = t.effects; formulas = t.formulas; size = t.size; goal = new }
+
+-- An effect as a depot keeps it.
+abbrev pub effect_of : KeptEffect → Effect
+effect_of e = record { condition = e.condition; settings = numbers_of e.settings; strikes = numbers_of e.strikes }
+
+-- A move as a depot keeps it.
+abbrev pub move_of : KeptMove → Move
+move_of m = record { need = m.need; effects_before = m.effects_before }
+
+-- The tables of a depot.
+abbrev pub tables_of : {K F : Type 0} {kind : Ghosts K F} → Depot K F kind → Tables F
+tables_of d = record {
+  zones = (listing_of d.names).zones;
+  matters = (listing_of d.names).matters;
+  facts = vec_items d.facts;
+  texts = map text_of (vec_items d.texts);
+  started = vec_items d.started;
+  names = map text_of (vec_items d.move_names);
+  moves = map move_of (vec_items d.moves);
+  effects = map effect_of (take d.effect_count (vec_items d.effects));
+  formulas = map numbers (vec_items d.formulas);
+  size = d.formula_size;
+  goal = d.goal;
+}

@@ -1,0 +1,68 @@
+// Entries put into the tables of a depot. Only want of memory keeps one out.
+ghost use Rattle.std.specs.Prelude.{◌≡◌, [], ◌∷◌, ◌++◌, length, MatchResult};
+ghost use Rattle.sheets.specs.declared.refusals.Refusal.TheVariants.{NoMemory};
+ghost use Rattle.depots.specs.FormulaFields.{with_formula};
+ghost use Rattle.depots.specs.Settings.{numbers_of};
+ghost use Rattle.depots.specs.Tables.{tables_of, with_effects, with_moves};
+
+use crate::depot::{Depot, Effect, Move};
+use crate::effect_table::fill;
+use crate::entries::push_text;
+use crate::fact_list::FactList;
+use crate::formula_field::NewFormula;
+use facts::kinds::Kind;
+use sheets::refusals::Refusal;
+use std::alloc::Global;
+
+impl<K: Kind> Depot<K> {
+    // One formula more, which is then listed last.
+    pub(crate) fn push_formula(&mut self, new: NewFormula) -> Result<(), Refusal>
+        ensures { MatchResult result (λ _. tables_of self.new ≡ with_formula (tables_of self.old) new) (λ w. w ≡ NoMemory) }
+    {
+        let NewFormula { formula, total } = new;
+        if self.formulas.push(formula).is_err() {
+            return Err(Refusal::NoMemory);
+        }
+        self.formula_size = total;
+        Ok(())
+    }
+
+    // One move more, whose need is the formula listed last.
+    pub(crate) fn push_move(&mut self, heap: Global, name: &[u8]) -> Result<(), Refusal>
+        ensures { MatchResult result (λ _. tables_of self.new ≡ with_moves (tables_of self.old) ((tables_of self.old).names ++ name.now ∷ []) ((tables_of self.old).moves ++ record { need = length (tables_of self.old).formulas; effects_before = length (tables_of self.old).effects } ∷ [])) (λ w. w ≡ NoMemory) }
+    {
+        let new = Move {
+            need: self.formulas.len(),
+            effects_before: self.effects().len(),
+        };
+        if self.moves.push(new).is_err() {
+            return Err(Refusal::NoMemory);
+        }
+        if !push_text(heap, &mut self.move_names, name) {
+            return Err(Refusal::NoMemory);
+        }
+        Ok(())
+    }
+
+    // One effect more, whose condition is the formula listed last.
+    pub(crate) fn push_effect(
+        &mut self,
+        settings: FactList,
+        strikes: FactList,
+    ) -> Result<(), Refusal>
+        ensures { MatchResult result (λ _. tables_of self.new ≡ with_effects (tables_of self.old) ((tables_of self.old).effects ++ record { condition = length (tables_of self.old).formulas; settings = numbers_of settings; strikes = numbers_of strikes } ∷ [])) (λ w. w ≡ NoMemory) }
+    {
+        let new = Effect {
+            condition: self.formulas.len(),
+            settings,
+            strikes,
+        };
+        match fill(&mut self.effects, self.effect_count, new) {
+            None => Err(Refusal::NoMemory),
+            Some(count) => {
+                self.effect_count = count;
+                Ok(())
+            }
+        }
+    }
+}
