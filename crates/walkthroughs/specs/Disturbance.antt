@@ -23,6 +23,16 @@ pub record DisturbedByOrder (d : Depot) (s : State) (moves : List ℕ) : Type 0 
 abbrev pub AlikeInEveryOrder : Depot → State → List ℕ → Type 0
 AlikeInEveryOrder d s moves = (done : List ℕ) (move : ℕ) (rest : List ℕ) → SameMoves (done ++ move ∷ rest) moves → (part : ℕ) → reads d (one_by_one d s done) move part ≡ reads d s move part
 
+-- A part of a move reads otherwise at the state t than at s.
+abbrev pub Otherwise : Depot → State → State → ℕ → ℕ → Type 0
+Otherwise d s t m part = reads d t m part ≡ not (reads d s m part)
+
+-- A part of the move at a place outside a set reads otherwise at t than at s.
+pub record OtherAt (d : Depot) (s t : State) (moves : List ℕ) (set place part : ℕ) : Type 0 where
+  pub placed : Listed place (length moves)
+  pub outside : in_set set place ≡ false
+  pub otherwise : Otherwise d s t (move_at moves place) part
+
 -- A part of the move at a place outside a set reads otherwise after the moves of the set, judged at the start.
 pub record SetDisturbs (d : Depot) (s : State) (moves : List ℕ) (set place part : ℕ) : Type 0 where
   pub known : set < 2 ^ length moves

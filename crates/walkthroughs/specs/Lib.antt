@@ -6,8 +6,12 @@ pub mod Judging
 pub mod Kinds
 pub mod Laws
 pub mod Lists
+pub mod Marks
 pub mod Mistakes
+pub mod Outcomes
+pub mod Ruled
 pub mod Runs
+pub mod Searching
 pub mod Sets
 pub mod Steps
 pub mod Unpickings

@@ -20,6 +20,18 @@ pub record Accepted (d : Depot) (s : State) (moves : List ℕ) : Type 0 where
   pub agreed : contradictory d s moves ≡ false
   pub alike : AlikeInEveryOrder d s moves
 
+-- The move at a place is not listed among so many.
+abbrev pub UnknownAt : ℕ → List ℕ → ℕ → Type 0
+UnknownAt count moves place = Listed place (length moves) × (Listed (move_at moves place) count → ⊥)
+
+-- The move at a place stands at a place before it too.
+abbrev pub RepeatedAt : List ℕ → ℕ → Type 0
+RepeatedAt moves place = Listed place (length moves) × ((before : ℕ) × Listed before (length moves) × (before < place) × (move_at moves before ≡ move_at moves place))
+
+-- The need of the move at a place is false.
+abbrev pub FalseAt : Depot → State → List ℕ → ℕ → Type 0
+FalseAt d s moves place = Listed place (length moves) × (need_true d s (move_at moves place) ≡ false)
+
 -- What is wrong with a step, by its reason and details; a place is one of the step's.
 abbrev pub StepFault : Depot → State → List ℕ → Refusal → Type 0
 StepFault d s moves StepSize = (length moves ≡ 0) ⊎ (8 < length moves)

@@ -1,0 +1,21 @@
+-- The lowest of what is looked for. Assumes nothing.
+use Rattle.std.specs.Prelude.{ℕ, List, [], ◌∷◌, Some, None, Option}
+use Rattle.sheets.specs.Faults.{NoLater}
+
+-- What is found is wanted, and nothing that is wanted has a lower row of numbers; or nothing is wanted.
+abbrev pub LowestBy : {X : Type 0} → (X → List ℕ) → (X → Type 0) → Option X → Type 0
+LowestBy {X} row Wanted None = (x : X) → Wanted x → ⊥
+LowestBy {X} row Wanted (Some x) = Wanted x × ((y : X) → Wanted y → NoLater (row x) (row y))
+
+-- The rows of one to four numbers.
+abbrev pub one : ℕ → List ℕ
+one n = n ∷ []
+
+abbrev pub two : ℕ × ℕ → List ℕ
+two p = p.0 ∷ p.1 ∷ []
+
+abbrev pub three : ℕ × ℕ × ℕ → List ℕ
+three p = p.0 ∷ p.1 ∷ p.2 ∷ []
+
+abbrev pub four : ℕ × ℕ × ℕ × ℕ → List ℕ
+four p = p.0 ∷ p.1 ∷ p.2 ∷ p.3 ∷ []
