@@ -2,6 +2,8 @@
 #![tactic(auto)]
 
 #[cfg(test)]
+mod depot_sheets;
+#[cfg(test)]
 mod fact_fields;
 #[cfg(test)]
 mod layouts;

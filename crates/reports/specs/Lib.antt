@@ -1,3 +1,4 @@
+pub mod DepotReport
 pub mod Layout
 pub mod Refused
 pub mod Written

@@ -1,5 +1,6 @@
 // What the checker prints.
 #![tactic(auto)]
 
+pub mod depot_report;
 pub mod layout_report;
 pub mod refused;
