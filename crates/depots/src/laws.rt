@@ -2,9 +2,9 @@
 ghost use Rattle.depots.specs.Kinds.{meaning};
 ghost use Rattle.depots.specs.Laws.{SheetFixes};
 
-use facts::kinds::Kind;
+use facts::text_kinds::TextKind;
 
 // A sheet spells one depot at the most, has one refusal at the most, and not both, whatever the kind.
-pub fn sheets_fix_the_answer<K: Kind>()
+pub fn sheets_fix_the_answer<K: TextKind>()
     ensures { SheetFixes (meaning K.wording K.reading_under K.alike K.certain) }
 {}

@@ -9,7 +9,7 @@ ghost use Rattle.depots.specs.Wrong.{shown_fields};
 
 use crate::depot::Depot;
 use crate::fields::Fields;
-use facts::kinds::Kind;
+use facts::text_kinds::TextKind;
 use sheets::layout::Above;
 use sheets::letters::Letter;
 use sheets::lines::Line;
@@ -40,7 +40,7 @@ fn fields_of<'a>(line: &Line<'a>) -> Fields<'a>
     }
 }
 
-impl<K: Kind> Depot<K> {
+impl<K: TextKind> Depot<K> {
     // Takes a line with a letter into the tables.
     fn take(&mut self, heap: Global, letter: Letter, fields: Fields) -> Result<(), Refusal>
         ensures { LineTaken (meaning K.wording K.reading_under K.alike K.certain) (tables_of self.old) letter (shown_fields fields.entry) result (tables_of self.new) }

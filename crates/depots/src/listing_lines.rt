@@ -9,7 +9,7 @@ use crate::depot::Depot;
 use crate::entries::{list_fact, list_name, start_fact};
 use crate::fields::Fields;
 use crate::troubles::{Trouble, only};
-use facts::kinds::Kind;
+use facts::text_kinds::TextKind;
 use sheets::refusals::Refusal;
 use std::alloc::Global;
 
@@ -17,7 +17,7 @@ const MOST_ZONES: usize = 12;
 
 const MOST_MATTERS: usize = 64;
 
-impl<K: Kind> Depot<K> {
+impl<K: TextKind> Depot<K> {
     pub(crate) fn take_kind(&self, fields: Fields) -> Result<(), Refusal>
         ensures { LineTaken (meaning K.wording K.reading_under K.alike K.certain) (tables_of self.now) letter.Kind (shown_fields fields.entry) result (tables_of self.now) }
     {

@@ -14,7 +14,7 @@ use crate::fact_list::FactList;
 use crate::fields::Fields;
 use crate::formula_field::NewFormula;
 use crate::troubles::{lowest, trouble_in};
-use facts::kinds::Kind;
+use facts::text_kinds::TextKind;
 use sheets::refusals::Refusal;
 use std::alloc::Global;
 
@@ -28,7 +28,7 @@ pub struct NewEffect {
     pub(crate) strikes: FactList,
 }
 
-impl<K: Kind> Depot<K> {
+impl<K: TextKind> Depot<K> {
     // The need of a move that a line lists.
     fn read_move(&self, heap: Global, fields: Fields) -> Result<NewFormula, Refusal>
         ensures { LineRead (meaning K.wording K.reading_under K.alike K.certain) (tables_of self.now) letter.Move (shown_fields fields.entry) (λ new. AddsFormula (meaning K.wording K.reading_under K.alike K.certain) (tables_of self.now) (shown_fields fields.entry).third (with_formula (tables_of self.now) new)) result }

@@ -7,7 +7,7 @@ ghost use Rattle.depots.specs.Tables.{no_tables, tables_of};
 
 use crate::depot::{Depot, Effect};
 use crate::effect_table::MOST_EFFECTS;
-use facts::kinds::Kind;
+use facts::text_kinds::TextKind;
 use sheets::faults::{Fault, Sheet};
 use sheets::layout::{Above, DEPOT_LIMIT};
 use sheets::lines::first_line;
@@ -37,7 +37,7 @@ fn at_line(line: usize, refusal: Refusal) -> Fault
     }
 }
 
-impl<K: Kind> Depot<K> {
+impl<K: TextKind> Depot<K> {
     // An empty depot with room for as many effects as a sheet may have, or one without where memory is wanting.
     fn begin(&mut self, heap: Global) -> bool
         ensures { tables_of self.new ≡ no_tables }

@@ -15,10 +15,11 @@ use crate::formula_field::{FormulaField, formula_field};
 use crate::settings::fact_list;
 use crate::troubles::Trouble;
 use facts::kinds::Kind;
+use facts::text_kinds::TextKind;
 use sheets::refusals::Refusal;
 use std::alloc::Global;
 
-impl<K: Kind> Depot<K> {
+impl<K: TextKind> Depot<K> {
     // What a field with a formula holds.
     pub(crate) fn formula(&self, heap: Global, text: &[u8]) -> Result<FormulaField, Refusal>
         ensures { MatchResult result (FormulaRead (number_among (meaning K.wording K.reading_under K.alike K.certain) (tables_of self.now)) text.now) (λ w. w ≡ NoMemory) }
@@ -32,7 +33,9 @@ impl<K: Kind> Depot<K> {
     {
         fact_list::<K>(&self.names, &self.facts, text)
     }
+}
 
+impl<K: Kind> Depot<K> {
     // What is wrong with a field that names a new move.
     pub(crate) fn new_move_name(&self, text: &[u8]) -> Option<Trouble>
         ensures { result ≡ new_name (tables_of self.now).names text.now }

@@ -3,7 +3,6 @@ ghost use Rattle.std.specs.Prelude.{◌≡◌, ℕ, Bool, true, List, Result};
 ghost use Rattle.std.specs.Str.{bytes_eq};
 ghost use Rattle.facts.specs.declared.names.Names.{Names};
 ghost use Rattle.facts.specs.declared.names.NoFact.{NoFact};
-ghost use Rattle.facts.specs.Texts.{Listing, listing_of};
 
 use crate::names::{Names, NoFact};
 
@@ -19,9 +18,6 @@ pub trait Kind {
 
     // The fact that a text is under some names, or why it is none.
     ghost reading: { Names → List ℕ → Result Self.Fact NoFact };
-
-    // The same by the texts of the listed zones and matters.
-    ghost reading_under: { Listing → List ℕ → Result Self.Fact NoFact };
 
     // Two facts are the same.
     ghost alike: { Self.Fact → Self.Fact → Bool };
@@ -48,9 +44,6 @@ pub trait Kind {
 
     fn always_true(fact: &Self::Fact) -> bool
         ensures { result ≡ certain fact.now };
-
-    // What a text is as a fact goes by the listed texts alone, and not by the records that keep them.
-    ghost goes_by_texts: { (names : Names) → reading names ≡ reading_under (listing_of names) };
 
     // A fact carries itself.
     ghost reflexive: { (a : Self.Fact) → carrying a a ≡ true };

@@ -13,4 +13,5 @@ mod sight_text;
 pub mod sighted;
 #[cfg(test)]
 mod tests;
+pub mod text_kinds;
 mod watchers;

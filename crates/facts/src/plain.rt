@@ -6,6 +6,7 @@ ghost use Rattle.std.proofs.Common.{rules};
 
 use crate::kinds::Kind;
 use crate::names::{Names, NoFact};
+use crate::text_kinds::TextKind;
 use sheets::{bytes, listed, names};
 
 // A fact (an atom): the listed matter at an index counted from 0.
@@ -26,15 +27,11 @@ impl Kind for Plain {
 
     ghost reading = { λ names. plain_reading (matters_of names) };
 
-    ghost reading_under = { λ listing. plain_reading listing.matters };
-
     ghost alike = { plain_same };
 
     ghost carrying = { plain_same };
 
     ghost certain = { plain_certain };
-
-    ghost goes_by_texts = { λ names. refl };
 
     ghost reflexive = { Prim.search rules };
 
@@ -65,4 +62,10 @@ impl Kind for Plain {
     fn always_true(_fact: &PlainFact) -> bool {
         false
     }
+}
+
+impl TextKind for Plain {
+    ghost reading_under = { λ listing. plain_reading listing.matters };
+
+    ghost goes_by_texts = { λ names. refl };
 }

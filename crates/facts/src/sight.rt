@@ -7,6 +7,7 @@ ghost use Rattle.facts.specs.Carrying.{sight_carries-refl, sight_carries-trans};
 use crate::kinds::Kind;
 use crate::names::{Names, NoFact};
 use crate::sighted::{MOST_WATCHERS, SightFact, Watcher};
+use crate::text_kinds::TextKind;
 use crate::{sight_text, watchers};
 use sheets::bytes;
 
@@ -31,15 +32,11 @@ impl Kind for Sight {
 
     ghost reading = { λ names. sight_reading (zones_of names) (matters_of names) };
 
-    ghost reading_under = { λ listing. sight_reading listing.zones listing.matters };
-
     ghost alike = { sight_same };
 
     ghost carrying = { sight_carries };
 
     ghost certain = { sight_certain };
-
-    ghost goes_by_texts = { λ names. refl };
 
     ghost reflexive = { sight_carries-refl };
 
@@ -64,4 +61,10 @@ impl Kind for Sight {
     fn always_true(fact: &SightFact) -> bool {
         watchers::is_idle(fact.seen_by())
     }
+}
+
+impl TextKind for Sight {
+    ghost reading_under = { λ listing. sight_reading listing.zones listing.matters };
+
+    ghost goes_by_texts = { λ names. refl };
 }

@@ -7,8 +7,8 @@ use Rattle.depots.proofs.depot.Depot.take_kind.Goals as goal
 
 pub returns-then-not-is_word : goal.returns-then-not-is_word
 returns-then-not-is_word g c =
-    other_word (meaning g.K.Kind.wording g.K.Kind.reading_under g.K.Kind.alike g.K.Kind.certain) (tables_of c.args.self.now) (shown_fields c.args.fields) (sym c.if-not-is_word.ensures) _ c.only.ensures
+    other_word (meaning g.K.Kind.wording g.K.TextKind.reading_under g.K.Kind.alike g.K.Kind.certain) (tables_of c.args.self.now) (shown_fields c.args.fields) (sym c.if-not-is_word.ensures) _ c.only.ensures
 
 pub returns : goal.returns
 returns g c =
-    right-word (meaning g.K.Kind.wording g.K.Kind.reading_under g.K.Kind.alike g.K.Kind.certain) (tables_of c.args.self.now) (shown_fields c.args.fields) (sym c.if-not-is_word.ensures)
+    right-word (meaning g.K.Kind.wording g.K.TextKind.reading_under g.K.Kind.alike g.K.Kind.certain) (tables_of c.args.self.now) (shown_fields c.args.fields) (sym c.if-not-is_word.ensures)

@@ -10,4 +10,4 @@ use Rattle.depots.proofs.depot.Depot.take_zone.Goals as goal
 pub returns : goal.returns
 returns g c =
     let names = c.args.self.now.names.zones in
-    zone_line (meaning g.K.Kind.wording g.K.Kind.reading_under g.K.Kind.alike g.K.Kind.certain) (tables_of c.args.self.now) (shown_fields c.args.fields) c.list_name.result _ _ _ (names.ok.0 ∙ sym (length-map (vec_items names) text_of)) c.list_name.ensures
+    zone_line (meaning g.K.Kind.wording g.K.TextKind.reading_under g.K.Kind.alike g.K.Kind.certain) (tables_of c.args.self.now) (shown_fields c.args.fields) c.list_name.result _ _ _ (names.ok.0 ∙ sym (length-map (vec_items names) text_of)) c.list_name.ensures
