@@ -1,6 +1,8 @@
 -- A line judged by its layout and then by its fields, and that lines spell one depot at the most. Assumes nothing.
-use Rattle.std.proofs.Common.{◌≡◌, ℕ, zero, suc, ◌+◌, ◌<◌, ◌⊎◌, List, [], ◌∷◌, ◌++◌, length, get_or, Some, None, Ok, Result, sym, refl, ap, ◌∙◌, subst, inl, inr, arith}
+use Rattle.std.proofs.Common.{◌≡◌, ℕ, zero, suc, ◌+◌, ◌<◌, ◌⊎◌, List, [], ◌∷◌, ◌++◌, length, get_or, Some, None, Ok, Option, Result, sym, refl, ap, ◌∙◌, subst, inl, inr, arith}
 use Rattle.std.specs.List.{slice_get}
+use Rattle.std.specs.Option.{option_map, unwrap_or}
+use denote.Ref.{Bor}
 use Rattle.sheets.specs.declared.layout.Above.{Above}
 use Rattle.sheets.specs.declared.letters.Letter.{Letter}
 use Rattle.sheets.specs.declared.letters.Letter.TheVariants as letter
@@ -11,7 +13,7 @@ use Rattle.sheets.specs.Layout.{LayoutFault, Unfinished, letter_on}
 use Rattle.sheets.specs.Lines.{Line}
 use Rattle.sheets.specs.Refusals.{number_of, rank_of}
 use Rattle.sheets.proofs.LaidOut.{layout_first}
-use Rattle.sheets.proofs.Places.{same_some}
+use Rattle.std.proofs.lemmas.Option.{none-some, same_Some}
 use Rattle.sheets.proofs.Sheetwise.{Late}
 use Rattle.formulas.specs.Resolving.{number_in, renamed}
 use Rattle.formulas.specs.Spelling.{size_of}
@@ -22,26 +24,29 @@ use Rattle.depots.specs.Spelling.{Adds, AddsFormula, SpelledFrom, Wrong, WrongUn
 use Rattle.depots.specs.Tables.{Tables, with_effects, with_facts, with_formulas, with_goal, with_moves, with_started}
 use Rattle.depots.specs.Troubles.{refusal_of}
 use Rattle.depots.specs.Wrong.{Fields, LineWrong, number_among}
-use Rattle.depots.proofs.Fieldwise.{nothing}
 use Rattle.depots.proofs.Formulaic.{spells_one}
 
 -- an element of a list or something else
-pub field_there : (fs : List (List ℕ)) (i : ℕ) (x : List ℕ) → Some x ≡ slice_get fs i → x ≡ get_or fs i []
-field_there [] i x is = absurd (nothing (sym is))
-field_there (f ∷ fs) zero x is = same_some x f is
-field_there (f ∷ fs) (suc i) x is = field_there fs i x is
+field_here : (fs : List (List ℕ)) (i : ℕ) (x : List ℕ) → Some x ≡ slice_get fs i → x ≡ get_or fs i []
+field_here [] i x is = absurd (none-some _ (sym is))
+field_here (f ∷ fs) zero x is = same_Some x f is
+field_here (f ∷ fs) (suc i) x is = field_here fs i x is
 
-pub field_missing : (fs : List (List ℕ)) (i : ℕ) → None ≡ slice_get fs i → [] ≡ get_or fs i []
+field_missing : (fs : List (List ℕ)) (i : ℕ) → None ≡ slice_get fs i → [] ≡ get_or fs i []
 field_missing [] i is = refl
-field_missing (f ∷ fs) zero is = absurd (nothing is)
+field_missing (f ∷ fs) zero is = absurd (none-some _ is)
 field_missing (f ∷ fs) (suc i) is = field_missing fs i is
+
+pub field_there : (fs : List (List ℕ)) (i : ℕ) (o : Option (Bor (List ℕ))) (d : Bor (List ℕ)) → d.now ≡ [] → option_map (λ x. x.now) o ≡ slice_get fs i → (unwrap_or o d).now ≡ get_or fs i []
+field_there fs i None d none is = none ∙ field_missing fs i is
+field_there fs i (Some x) d none is = field_here fs i x.now is
 
 -- what is wrong with fields has a number from 5 to 9
 field_number : (a : Trouble) (field : ℕ) (w : Refusal) → refusal_of (Some a) field ≡ Some w → (4 < number_of w) × (number_of w < 10)
-field_number trouble.NotItsForm field w is = subst (λ u. (4 < number_of u) × (number_of u < 10)) (same_some _ _ is) (omega arith, omega arith)
-field_number trouble.NotListed field w is = subst (λ u. (4 < number_of u) × (number_of u < 10)) (same_some _ _ is) (omega arith, omega arith)
-field_number trouble.Twice field w is = subst (λ u. (4 < number_of u) × (number_of u < 10)) (same_some _ _ is) (omega arith, omega arith)
-field_number trouble.AlwaysTrue field w is = subst (λ u. (4 < number_of u) × (number_of u < 10)) (same_some _ _ is) (omega arith, omega arith)
+field_number trouble.NotItsForm field w is = subst (λ u. (4 < number_of u) × (number_of u < 10)) (same_Some _ _ is) (omega arith, omega arith)
+field_number trouble.NotListed field w is = subst (λ u. (4 < number_of u) × (number_of u < 10)) (same_Some _ _ is) (omega arith, omega arith)
+field_number trouble.Twice field w is = subst (λ u. (4 < number_of u) × (number_of u < 10)) (same_Some _ _ is) (omega arith, omega arith)
+field_number trouble.AlwaysTrue field w is = subst (λ u. (4 < number_of u) × (number_of u < 10)) (same_Some _ _ is) (omega arith, omega arith)
 
 module _ {F : Type 0} (m : Meaning F) where
   line-number : (t : Tables F) (k : Letter) (f : Fields) (w : Refusal) → LineWrong m t k f w → (4 < number_of w) × (number_of w < 10)
@@ -72,7 +77,7 @@ module _ {F : Type 0} (m : Meaning F) where
     module _ (k : Letter) (here : letter_on l ≡ Some k) (laid_out : (w : Refusal) → LayoutFault a l w → ⊥) where
       only-fields : (w : Refusal) → WrongUnder m t a l w → LineWrong m t k (fields_on l) w
       only-fields w (inl f) = absurd (laid_out w f)
-      only-fields w (inr f) = subst (λ j. LineWrong m t j (fields_on l) w) (same_some f.0 k (sym f.1 ∙ here)) f.2
+      only-fields w (inr f) = subst (λ j. LineWrong m t j (fields_on l) w) (same_Some f.0 k (sym f.1 ∙ here)) f.2
 
       fields_told : (w : Refusal) → Lowest (LineWrong m t k (fields_on l)) w → Lowest (WrongUnder m t a l) w
       fields_told w low = record { holds = inr (k, here, low.holds); first = λ v f. low.first v (only-fields v f) }
@@ -116,7 +121,7 @@ module _ {F : Type 0} (m : Meaning F) where
   spelled-one t (l ∷ ls) u v a b = spelled-one b.1 ls u v (subst (λ x. SpelledFrom m x ls u) same a.4) b.4
     where
       letters : a.0 ≡ b.0
-      letters = same_some a.0 b.0 (sym a.2 ∙ b.2)
+      letters = same_Some a.0 b.0 (sym a.2 ∙ b.2)
 
       same : a.1 ≡ b.1
       same = adds_one t b.0 (fields_on l) a.1 b.1 (subst (λ k. Adds m t k (fields_on l) a.1) letters a.3) b.3

@@ -6,7 +6,7 @@ use Rattle.sheets.specs.declared.refusals.Refusal.TheVariants.{TableFull}
 use Rattle.sheets.specs.Faults.{NoLater, Lowest}
 use Rattle.sheets.specs.Refusals.{number_of, rank_of}
 use Rattle.sheets.proofs.Judged.{no_later_itself}
-use Rattle.sheets.proofs.Places.{same_some}
+use Rattle.std.proofs.lemmas.Option.{none-some, same_Some}
 use Rattle.depots.specs.declared.troubles.Trouble.{Trouble}
 use Rattle.depots.specs.declared.troubles.Trouble.TheVariants.{NotItsForm, NotListed, Twice, AlwaysTrue}
 use Rattle.depots.specs.Troubles.{refusal_of, lower_of, FieldFault, LineFault, Faultless}
@@ -15,16 +15,13 @@ use Rattle.depots.specs.Troubles.{refusal_of, lower_of, FieldFault, LineFault, F
 abbrev pub Told : (Refusal → Type 0) → Option Refusal → Type 0
 Told Wrong r = MatchOption r ((w : Refusal) → Wrong w → ⊥) (λ w. Lowest Wrong w)
 
-pub nothing : {X : Type 0} {x : X} → None ≡ Some x → ⊥
-nothing e = let z : ◌≡◌ {A = ℕ} 0 1 = cc in omega arith
-
 -- the rank of a trouble with a field: its number, and then the field
 ranked : (t : Option Trouble) (field : ℕ) (w : Refusal) → refusal_of t field ≡ Some w → rank_of w ≡ number_of w ∷ field ∷ 0 ∷ 0 ∷ 0 ∷ []
-ranked None field w is = absurd (nothing is)
-ranked (Some NotItsForm) field w is = subst (λ u. rank_of u ≡ number_of u ∷ field ∷ 0 ∷ 0 ∷ 0 ∷ []) (same_some _ _ is) refl
-ranked (Some NotListed) field w is = subst (λ u. rank_of u ≡ number_of u ∷ field ∷ 0 ∷ 0 ∷ 0 ∷ []) (same_some _ _ is) refl
-ranked (Some Twice) field w is = subst (λ u. rank_of u ≡ number_of u ∷ field ∷ 0 ∷ 0 ∷ 0 ∷ []) (same_some _ _ is) refl
-ranked (Some AlwaysTrue) field w is = subst (λ u. rank_of u ≡ number_of u ∷ field ∷ 0 ∷ 0 ∷ 0 ∷ []) (same_some _ _ is) refl
+ranked None field w is = absurd (none-some _ is)
+ranked (Some NotItsForm) field w is = subst (λ u. rank_of u ≡ number_of u ∷ field ∷ 0 ∷ 0 ∷ 0 ∷ []) (same_Some _ _ is) refl
+ranked (Some NotListed) field w is = subst (λ u. rank_of u ≡ number_of u ∷ field ∷ 0 ∷ 0 ∷ 0 ∷ []) (same_Some _ _ is) refl
+ranked (Some Twice) field w is = subst (λ u. rank_of u ≡ number_of u ∷ field ∷ 0 ∷ 0 ∷ 0 ∷ []) (same_Some _ _ is) refl
+ranked (Some AlwaysTrue) field w is = subst (λ u. rank_of u ≡ number_of u ∷ field ∷ 0 ∷ 0 ∷ 0 ∷ []) (same_Some _ _ is) refl
 
 -- what is wrong with fields from one on is ranked by one of them
 ranked-from : (field : ℕ) (ts : List (Option Trouble)) (w : Refusal) → FieldFault field ts w → (g : ℕ) × (field ≤ g) × (rank_of w ≡ number_of w ∷ g ∷ 0 ∷ 0 ∷ 0 ∷ [])
@@ -49,7 +46,7 @@ pub lower-told : (t : Option Trouble) (field : ℕ) (ts : List (Option Trouble))
 lower-told t field ts r told = by_first (refusal_of t field) refl r told
   where
     same_first : (u x : Refusal) → refusal_of t field ≡ Some u → refusal_of t field ≡ Some x → x ≡ u
-    same_first u x a b = same_some x u (sym b ∙ a)
+    same_first u x a b = same_Some x u (sym b ∙ a)
 
     alone : (u : Refusal) → refusal_of t field ≡ Some u → ((x : Refusal) → FieldFault (field + 1) ts x → NoLater (rank_of u) (rank_of x)) → Lowest (FieldFault field (t ∷ ts)) u
     alone u is later = record { holds = inl is; first = by_fault }
@@ -59,11 +56,11 @@ lower-told t field ts r told = by_first (refusal_of t field) refl r told
         by_fault x (inr f) = later x f
 
     by_first : (a : Option Refusal) → refusal_of t field ≡ a → (r : Option Refusal) → Told (FieldFault (field + 1) ts) r → Told (FieldFault field (t ∷ ts)) (lower_of a r)
-    by_first None is None told = λ w f. ⊎_elim (λ (same : refusal_of t field ≡ Some w). nothing (sym is ∙ same)) (λ (g : FieldFault (field + 1) ts w). told w g) f
+    by_first None is None told = λ w f. ⊎_elim (λ (same : refusal_of t field ≡ Some w). none-some _ (sym is ∙ same)) (λ (g : FieldFault (field + 1) ts w). told w g) f
     by_first None is (Some v) low = record { holds = inr low.holds; first = by_fault }
       where
         by_fault : (x : Refusal) → FieldFault field (t ∷ ts) x → NoLater (rank_of v) (rank_of x)
-        by_fault x (inl same) = absurd (nothing (sym is ∙ same))
+        by_fault x (inl same) = absurd (none-some _ (sym is ∙ same))
         by_fault x (inr f) = low.first x f
     by_first (Some u) is None told = alone u is (λ x f. absurd (told x f))
     by_first (Some u) is (Some v) low =
@@ -91,11 +88,11 @@ before-full field (t ∷ ts) w (inr f) = before-full (field + 1) ts w f
 before-full field (t ∷ ts) w (inl is) = by_trouble t is
   where
     by_trouble : (t : Option Trouble) → refusal_of t field ≡ Some w → number_of w < 9
-    by_trouble None is = absurd (nothing is)
-    by_trouble (Some NotItsForm) is = subst (λ u. number_of u < 9) (same_some _ _ is) (omega arith)
-    by_trouble (Some NotListed) is = subst (λ u. number_of u < 9) (same_some _ _ is) (omega arith)
-    by_trouble (Some Twice) is = subst (λ u. number_of u < 9) (same_some _ _ is) (omega arith)
-    by_trouble (Some AlwaysTrue) is = subst (λ u. number_of u < 9) (same_some _ _ is) (omega arith)
+    by_trouble None is = absurd (none-some _ is)
+    by_trouble (Some NotItsForm) is = subst (λ u. number_of u < 9) (same_Some _ _ is) (omega arith)
+    by_trouble (Some NotListed) is = subst (λ u. number_of u < 9) (same_Some _ _ is) (omega arith)
+    by_trouble (Some Twice) is = subst (λ u. number_of u < 9) (same_Some _ _ is) (omega arith)
+    by_trouble (Some AlwaysTrue) is = subst (λ u. number_of u < 9) (same_Some _ _ is) (omega arith)
 
 module _ (ts : List (Option Trouble)) (full : Bool) where
   pub field_first : (w : Refusal) → Lowest (FieldFault 2 ts) w → Lowest (LineFault ts full) w
@@ -121,13 +118,3 @@ module _ (ts : List (Option Trouble)) (full : Bool) where
 pub faultless_at : (t u : Option Trouble) (n m most : ℕ) → t ≡ u → n ≡ m → Faultless (t ∷ None ∷ None ∷ []) (leb most n) → Faultless (u ∷ None ∷ None ∷ []) (leb most m)
 faultless_at t u n m most same-trouble same_length fine =
     subst (λ x. Faultless (x ∷ None ∷ None ∷ []) (leb most m)) same-trouble (subst (λ x. Faultless (t ∷ None ∷ None ∷ []) (leb most x)) same_length fine)
-
--- one field in trouble
-pub only-told : (t : Trouble) (w : Refusal) → refusal_of (Some t) 2 ≡ Some w → (full : Bool) → Lowest (LineFault (Some t ∷ None ∷ None ∷ []) full) w
-only-told t w is full = field_first (Some t ∷ None ∷ None ∷ []) full w (record { holds = inl is; first = by_fault })
-  where
-    by_fault : (v : Refusal) → FieldFault 2 (Some t ∷ None ∷ None ∷ []) v → NoLater (rank_of w) (rank_of v)
-    by_fault v (inl same) = subst (λ u. NoLater (rank_of w) (rank_of u)) (sym (same_some v w (sym same ∙ is))) (no_later_itself (rank_of w))
-    by_fault v (inr (inl e)) = absurd (nothing e)
-    by_fault v (inr (inr (inl e))) = absurd (nothing e)
-    by_fault v (inr (inr (inr e))) = absurd e

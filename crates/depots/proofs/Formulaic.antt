@@ -1,5 +1,7 @@
 -- What a field with a formula comes to: the formula that it spells is the only one. Assumes nothing.
-use Rattle.std.proofs.Common.{◌≡◌, ℕ, true, false, List, Some, None, Ok, Err, Result, sym, refl, ap, ◌∙◌, subst, arith}
+use Rattle.std.proofs.Common.{◌≡◌, ℕ, true, false, List, Some, Ok, Err, Result, sym, refl, ap, ◌∙◌, subst}
+use Rattle.std.proofs.lemmas.Option.{none-some}
+use Rattle.std.specs.Result.{result_err}
 use Rattle.std.proofs.lemmas.Bool.{and_parts, and_from, both_ways}
 use Rattle.facts.specs.declared.names.NoFact.{NoFact}
 use Rattle.facts.specs.declared.names.NoFact.TheVariants as none
@@ -7,11 +9,10 @@ use Rattle.formulas.specs.Formulas.{Formula, Formulas, fact, neg, all, none as n
 use Rattle.formulas.specs.Reading.{Spells}
 use Rattle.formulas.specs.Resolving.{each_passes, each_passes_in, has_form, is_listed}
 use Rattle.formulas.proofs.Unique.{spelling_fixes}
-use Rattle.depots.specs.declared.formula_field.FormulaField.{FormulaField}
-use Rattle.depots.specs.declared.formula_field.FormulaField.TheVariants.{Read, Wrong}
+use Rattle.depots.specs.declared.formula_field.SizedFormula.{SizedFormula}
 use Rattle.depots.specs.declared.troubles.Trouble.{Trouble}
 use Rattle.depots.specs.declared.troubles.Trouble.TheVariants.{NotItsForm, NotListed, Twice, AlwaysTrue}
-use Rattle.depots.specs.FormulaFields.{FormulaRead, trouble_of}
+use Rattle.depots.specs.FormulaFields.{FormulaRead}
 use Rattle.depots.specs.Wrong.{FormulaWrong}
 
 -- a text spells one formula
@@ -60,12 +61,9 @@ module _ (number : List ℕ → Result ℕ NoFact) where
   none-wrong text p spells listed AlwaysTrue f = f
 
   -- what was found of a field is what is wrong with it
-  pub formula_found : (text : List ℕ) (x : FormulaField) → FormulaRead number text x → (a : Trouble) → (FormulaWrong number text a → trouble_of x ≡ Some a) × (trouble_of x ≡ Some a → FormulaWrong number text a)
-  formula_found text (Read f size) read a = (λ wrong. absurd (none-wrong text read.0 read.1 read.2.0 a wrong), λ is. absurd (nothing is))
-    where
-      nothing : {X : Type 0} {x : X} → None ≡ Some x → ⊥
-      nothing e = let z : ◌≡◌ {A = ℕ} 0 1 = cc in omega arith
-  formula_found text (Wrong b) read a = (λ wrong. ap Some (one-trouble text b a read wrong), λ is. subst (FormulaWrong number text) (inner is) read)
+  pub formula_found : (text : List ℕ) (x : Result SizedFormula Trouble) → FormulaRead number text x → (a : Trouble) → (FormulaWrong number text a → result_err x ≡ Some a) × (result_err x ≡ Some a → FormulaWrong number text a)
+  formula_found text (Ok f) read a = (λ wrong. absurd (none-wrong text read.0 read.1 read.2.0 a wrong), λ is. absurd (none-some _ is))
+  formula_found text (Err b) read a = (λ wrong. ap Some (one-trouble text b a read wrong), λ is. subst (FormulaWrong number text) (inner is) read)
     where
       inner : Some b ≡ Some a → b ≡ a
       inner e = cc

@@ -6,7 +6,7 @@ pub mod Gathered
 pub mod Grown
 pub mod Kept
 pub mod Listings
-pub mod Numbers
+pub mod Returned
 pub mod Told
 pub mod Viewed
 pub mod Walk

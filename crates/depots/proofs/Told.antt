@@ -1,5 +1,6 @@
 -- What is told of a line, by what was found of its fields. Assumes nothing.
 use Rattle.std.proofs.Common.{◌≡◌, ℕ, Bool, true, List, [], ◌∷◌, Some, None, Ok, Err, Option, Result, sym, refl, subst, inl, inr}
+use Rattle.std.proofs.lemmas.Option.{none-some}
 use Rattle.sheets.specs.declared.letters.Letter.{Letter}
 use Rattle.sheets.specs.declared.refusals.Refusal.{Refusal}
 use Rattle.sheets.specs.declared.refusals.Refusal.TheVariants.{TableFull}
@@ -14,7 +15,7 @@ use Rattle.depots.specs.Tables.{Tables}
 use Rattle.depots.specs.Troubles.{FieldFault, LineFault, refusal_of}
 use Rattle.depots.specs.Wrong.{FieldWrong, Fields, FieldsWrong, LineWrong, Overfull, Sort, sorts_of}
 use Rattle.depots.specs.Wrong.Sort.{no_field}
-use Rattle.depots.proofs.Fieldwise.{before-full, nothing}
+use Rattle.depots.proofs.Fieldwise.{before-full}
 
 -- what was found of a field is what is wrong with it
 abbrev pub Found : {F : Type 0} → Meaning F → Tables F → Sort → List ℕ → Option Trouble → Type 0
@@ -22,14 +23,14 @@ Found m t s text o = (a : Trouble) → (FieldWrong m t s text a → o ≡ Some a
 
 -- nothing where there is no field
 pub found_nothing : {F : Type 0} (m : Meaning F) (t : Tables F) (text : List ℕ) → Found m t no_field text None
-found_nothing m t text a = (λ wrong. absurd wrong, λ is. absurd (nothing is))
+found_nothing m t text a = (λ wrong. absurd wrong, λ is. absurd (none-some _ is))
 
 module _ {F : Type 0} (m : Meaning F) (t : Tables F) (k : Letter) (f : Fields) (x y z : Option Trouble) (fx : Found m t (sorts_of m t k).second f.second x) (fy : Found m t (sorts_of m t k).third f.third y) (fz : Found m t (sorts_of m t k).fourth f.fourth z) where
   there : (field : ℕ) (s : Sort) (text : List ℕ) (o : Option Trouble) (w : Refusal) → Found m t s text o → (a : Trouble) → FieldWrong m t s text a → refusal_of (Some a) field ≡ Some w → refusal_of o field ≡ Some w
   there field s text o w found a wrong is = subst (λ q. refusal_of q field ≡ Some w) (sym ((found a).0 wrong)) is
 
   back : (field : ℕ) (s : Sort) (text : List ℕ) (o : Option Trouble) (w : Refusal) → Found m t s text o → refusal_of o field ≡ Some w → (a : Trouble) × FieldWrong m t s text a × (refusal_of (Some a) field ≡ Some w)
-  back field s text None w found is = absurd (nothing is)
+  back field s text None w found is = absurd (none-some _ is)
   back field s text (Some a) w found is = (a, (found a).1 refl, is)
 
   fault : (w : Refusal) → FieldsWrong m t k f w → FieldFault 2 (x ∷ y ∷ z ∷ []) w

@@ -1,74 +1,58 @@
 -- Entries of the tables by number. Assumes nothing.
-use Rattle.std.proofs.Common.{◌≡◌, ℕ, zero, suc, ◌-◌, ◌<◌, ◌≤◌, min, max, ◌⊎◌, List, [], ◌∷◌, map, length, get_or, take, drop, Some, None, sym, refl, ap, ◌∙◌, subst, inl, inr, ⊎_elim, arith, length-drop}
-use Rattle.std.proofs.lemmas.List.{drop_all, take_all}
-use Rattle.std.proofs.lemmas.Option.{slice_get_past}
-use Rattle.std.proofs.lemmas.Bool.{cases_lt}
-use Rattle.depots.specs.declared.depot.Move.{Move as Kept}
+use Rattle.std.proofs.Common.{◌≡◌, ℕ, zero, suc, ◌-◌, ◌<◌, ◌≤◌, true, false, ltb, min, max, List, [], ◌∷◌, map, length, get_or, take, drop, Some, None, Option, sym, refl, ap, ◌∙◌, ⊎_elim, arith, length-drop}
+use Rattle.std.proofs.lemmas.List.{drop-map, drop_all, take-map, take_all}
+use Rattle.std.specs.Option.{option_map, unwrap_or}
+use Rattle.std.proofs.lemmas.Bool.{cases_lt, ltb-true, ltb-false}
+use Rattle.depots.specs.declared.depot.NamedMove.{NamedMove as Kept}
 use Rattle.depots.specs.Moves.{effects_of, end_of, entry_at, need_of}
-use Rattle.depots.specs.Tables.{Effect, Move, move_of}
+use Rattle.depots.specs.Tables.{Effect, move_of}
+use Rattle.std.proofs.lemmas.Option.{none-some, same_Some, slice_get-map}
 
--- a number that is not listed among k
-abbrev pub Unlisted : ℕ → ℕ → Type 0
-Unlisted n k = (n ≡ 0) ⊎ ((n ≡ 0 → ⊥) × (k < n))
+-- an entry that is lent, by what it stands for
+pub entry_shown : {B X Y : Type 0} (look : B → X) (f : X → Y) (r : Option B) (xs : List X) (n : ℕ) → option_map look r ≡ entry_at xs n → option_map (λ b. f (look b)) r ≡ entry_at (map f xs) n
+entry_shown look f None xs zero is = refl
+entry_shown look f (Some b) xs zero is = cc
+entry_shown look f None xs (suc n) is = ap (option_map f) is ∙ sym (slice_get-map f xs n)
+entry_shown look f (Some b) xs (suc n) is = ap (option_map f) is ∙ sym (slice_get-map f xs n)
 
-pub unlisted : (n k count : ℕ) → count ≡ k → (n ≡ 0) ⊎ ((n ≡ 0 → ⊥) × (count < n)) → Unlisted n k
-unlisted n k count same (inl z) = inl z
-unlisted n k count same (inr e) = inr (e.0, omega (arith, e.1))
+-- the need of a move that is listed, or of none
+pub need_found : (kept : List Kept) (n : ℕ) (o : Option Kept) → o ≡ entry_at kept n → unwrap_or (option_map (λ x. x.numbers.need) o) 0 ≡ need_of (map move_of kept) n
+need_found kept zero o is = ap (λ o. unwrap_or (option_map (λ x. x.numbers.need) o) 0) is
+need_found [] (suc n) o is = ap (λ o. unwrap_or (option_map (λ x. x.numbers.need) o) 0) is
+need_found (v ∷ kept) (suc zero) o is = ap (λ o. unwrap_or (option_map (λ x. x.numbers.need) o) 0) is
+need_found (v ∷ kept) (suc (suc n)) o is = need_found kept (suc n) o is
 
-module _ (P : ℕ → Type 0) where
-  -- the numbers that are listed follow one another
-  pub at-number : (n : ℕ) → (n ≡ 0 → ⊥) → P (suc (n - 1)) → P n
-  at-number zero some at = absurd (some refl)
-  at-number (suc n) some at = subst P (omega arith) at
-
-pub need_none : (moves : List Move) (n : ℕ) → Unlisted n (length moves) → 0 ≡ need_of moves n
-need_none moves zero out = refl
-need_none [] (suc n) out = refl
-need_none (v ∷ moves) (suc zero) (inl e) = absurd (omega arith)
-need_none (v ∷ moves) (suc zero) (inr e) = absurd (omega (arith, e.1))
-need_none (v ∷ moves) (suc (suc n)) (inl e) = absurd (omega arith)
-need_none (v ∷ moves) (suc (suc n)) (inr e) = need_none moves (suc n) (inr (λ z. omega arith, omega (arith, e.1)))
-
-pub effects_none : (moves : List Move) (effects : List Effect) (n : ℕ) → Unlisted n (length moves) → [] ≡ effects_of moves effects n
-effects_none moves effects zero out = refl
+pub effects_none : (kept : List Kept) (effects : List Effect) (n : ℕ) → None ≡ entry_at kept n → [] ≡ effects_of (map move_of kept) effects n
+effects_none kept effects zero out = refl
 effects_none [] effects (suc n) out = refl
-effects_none (v ∷ moves) effects (suc zero) (inl e) = absurd (omega arith)
-effects_none (v ∷ moves) effects (suc zero) (inr e) = absurd (omega (arith, e.1))
-effects_none (v ∷ moves) effects (suc (suc n)) (inl e) = absurd (omega arith)
-effects_none (v ∷ moves) effects (suc (suc n)) (inr e) = effects_none moves effects (suc n) (inr (λ z. omega arith, omega (arith, e.1)))
+effects_none (v ∷ kept) effects (suc zero) out = absurd (none-some _ out)
+effects_none (v ∷ kept) effects (suc (suc n)) out = effects_none kept effects (suc n) out
 
-pub entry_none : {X : Type 0} (entries : List X) (n : ℕ) → Unlisted n (length entries) → None ≡ entry_at entries n
-entry_none entries zero out = refl
-entry_none entries (suc n) (inl e) = absurd (omega arith)
-entry_none entries (suc n) (inr e) = sym (slice_get_past entries n (omega (arith, e.1)))
+-- how many effects stand before those of the next move
+pub end-at : (kept : List Kept) (all i : ℕ) (x : Kept) → true ≡ ltb i (length kept) → x ≡ get_or kept i x → x.numbers.effects_before ≡ end_of (map move_of kept) all i
+end-at kept all i x within is = at kept i (ltb-true i (length kept) (sym within)) is
+  where
+    at : (kept : List Kept) (i : ℕ) → i < length kept → x ≡ get_or kept i x → x.numbers.effects_before ≡ end_of (map move_of kept) all i
+    at [] i within is = absurd (omega arith)
+    at (v ∷ kept) zero within is = ap (λ m. m.numbers.effects_before) is
+    at (v ∷ kept) (suc i) within is = at kept i (omega arith) is
 
-pub need_at : (kept : List Kept) (i : ℕ) (x : Kept) → i < length kept → x ≡ get_or kept i x → x.need ≡ need_of (map move_of kept) (suc i)
-need_at [] i x within is = absurd (omega arith)
-need_at (v ∷ kept) zero x within is = ap (λ m. m.need) is
-need_at (v ∷ kept) (suc i) x within is = need_at kept i x (omega arith) is
-
-pub entry_at-here : {X Y : Type 0} (f : X → Y) (kept : List X) (i : ℕ) (x : X) → i < length kept → x ≡ get_or kept i x → Some (f x) ≡ entry_at (map f kept) (suc i)
-entry_at-here f [] i x within is = absurd (omega arith)
-entry_at-here f (v ∷ kept) zero x within is = ap (λ m. Some (f m)) is
-entry_at-here f (v ∷ kept) (suc i) x within is = entry_at-here f kept i x (omega arith) is
-
-pub end-at : (kept : List Kept) (all i : ℕ) (x : Kept) → i < length kept → x ≡ get_or kept i x → x.effects_before ≡ end_of (map move_of kept) all i
-end-at [] all i x within is = absurd (omega arith)
-end-at (v ∷ kept) all zero x within is = ap (λ m. m.effects_before) is
-end-at (v ∷ kept) all (suc i) x within is = end-at kept all i x (omega arith) is
-
-pub end-past : (kept : List Kept) (all i : ℕ) → length kept ≤ i → all ≡ end_of (map move_of kept) all i
-end-past [] all i past = refl
-end-past (v ∷ kept) all zero past = absurd (omega arith)
-end-past (v ∷ kept) all (suc i) past = end-past kept all i (omega arith)
+pub end-past : (kept : List Kept) (all i : ℕ) → false ≡ ltb i (length kept) → all ≡ end_of (map move_of kept) all i
+end-past kept all i past = at kept i (ltb-false i (length kept) (sym past))
+  where
+    at : (kept : List Kept) (i : ℕ) → length kept ≤ i → all ≡ end_of (map move_of kept) all i
+    at [] i past = refl
+    at (v ∷ kept) zero past = absurd (omega arith)
+    at (v ∷ kept) (suc i) past = at kept i (omega arith)
 
 -- the effects of a move by where they begin and end
-pub own_at : (kept : List Kept) (effects : List Effect) (i : ℕ) (x : Kept) → i < length kept → x ≡ get_or kept i x → take (end_of (map move_of kept) (length effects) (suc i) - x.effects_before) (drop x.effects_before effects) ≡ effects_of (map move_of kept) effects (suc i)
-own_at [] effects i x within is = absurd (omega arith)
-own_at (v ∷ []) effects zero x within is =
-    ap (λ m. take (length effects - m.effects_before) (drop m.effects_before effects)) is ∙ take_all (length effects - v.effects_before) (drop v.effects_before effects) (omega (arith, length-drop v.effects_before effects))
-own_at (v ∷ u ∷ kept) effects zero x within is = ap (λ m. take (u.effects_before - m.effects_before) (drop m.effects_before effects)) is
-own_at (v ∷ kept) effects (suc i) x within is = own_at kept effects i x (omega arith) is
+pub own_found : (kept : List Kept) (effects : List Effect) (n : ℕ) (x : Kept) → Some x ≡ entry_at kept n → take (end_of (map move_of kept) (length effects) n - x.numbers.effects_before) (drop x.numbers.effects_before effects) ≡ effects_of (map move_of kept) effects n
+own_found kept effects zero x is = absurd (none-some _ (sym is))
+own_found [] effects (suc n) x is = absurd (none-some _ (sym is))
+own_found (v ∷ []) effects (suc zero) x is =
+    ap (λ m. take (length effects - m.numbers.effects_before) (drop m.numbers.effects_before effects)) (same_Some x v is) ∙ take_all (length effects - v.numbers.effects_before) (drop v.numbers.effects_before effects) (omega (arith, length-drop v.numbers.effects_before effects))
+own_found (v ∷ u ∷ kept) effects (suc zero) x is = ap (λ m. take (u.numbers.effects_before - m.numbers.effects_before) (drop m.numbers.effects_before effects)) (same_Some x v is)
+own_found (v ∷ kept) effects (suc (suc n)) x is = own_found kept effects (suc n) x is
 
 take_none : {X : Type 0} (n : ℕ) → take {A = X} n [] ≡ []
 take_none n = take_all n [] (omega arith)
@@ -88,15 +72,5 @@ cut_capped xs before end first last is-first is_last =
     (cases_lt (length xs) end))
     (cases_lt (length xs) before)
 
-front : {X Y : Type 0} (f : X → Y) (xs : List X) (n : ℕ) → map f (take n xs) ≡ take n (map f xs)
-front f xs zero = refl
-front f [] (suc n) = refl
-front f (x ∷ xs) (suc n) = ap (λ l. f x ∷ l) (front f xs n)
-
-back : {X Y : Type 0} (f : X → Y) (xs : List X) (a : ℕ) → map f (drop a xs) ≡ drop a (map f xs)
-back f xs zero = refl
-back f [] (suc a) = refl
-back f (x ∷ xs) (suc a) = back f xs a
-
 pub map-part : {X Y : Type 0} (f : X → Y) (xs : List X) (n a : ℕ) → map f (take n (drop a xs)) ≡ take n (drop a (map f xs))
-map-part f xs n a = front f (drop a xs) n ∙ ap (take n) (back f xs a)
+map-part f xs n a = sym (ap (take n) (drop-map f a xs) ∙ take-map f n (drop a xs))

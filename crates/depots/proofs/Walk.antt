@@ -12,7 +12,8 @@ use Rattle.sheets.specs.Faults.{Lowest}
 use Rattle.sheets.specs.Layout.{LayoutFault, Unfinished, above_of, depot_limit, last_letter, letter_on, says_sight}
 use Rattle.sheets.specs.Lines.{Line, lines_of}
 use Rattle.sheets.proofs.LaidOut.{above_of-push}
-use Rattle.sheets.proofs.Places.{drop-next, nth_here, nth_within, take_next}
+use Rattle.std.proofs.lemmas.Option.{slice_get_within}
+use Rattle.sheets.proofs.Places.{drop-next, nth_here, take_next}
 use Rattle.sheets.proofs.Sheetwise.{Clear, clear-more, clear_none, end_refused, end-right, line_refused, over-limit}
 use Rattle.depots.specs.Kinds.{Meaning}
 use Rattle.depots.specs.Spelling.{Adds, DepotRead, DepotRefused, DepotTold, Placed, Spelled, Wrong, WrongUnder, fields_on}
@@ -27,11 +28,10 @@ pub record Walked {F : Type 0} (m : Meaning F) (s rest : List ℕ) (n : ℕ) (a 
   pub spelled : Spelled m (take n (lines_of s)) t
   pub clear : Clear (Wrong m) (lines_of s) n
   pub within : n ≤ length (lines_of s)
-  pub bytes : n + length rest ≤ length s
 
 module _ {F : Type 0} (m : Meaning F) (s : List ℕ) where
   pub begun : (a : Above) (t : Tables F) → a ≡ above_of [] → t ≡ no_tables → Walked m s s 0 a t
-  begun a t is none = record { left = refl; seen = is; spelled = none; clear = clear_none (Wrong m) (lines_of s); within = omega arith; bytes = omega arith }
+  begun a t is none = record { left = refl; seen = is; spelled = none; clear = clear_none (Wrong m) (lines_of s); within = omega arith }
 
   -- a refusal as a fault tells it
   placed : (n : ℕ) (w : Refusal) (f : Fault) → f.sheet ≡ Some Depot → f.line ≡ n → f.refusal ≡ w → DepotRefused m s n w → DepotTold m s f
@@ -54,14 +54,13 @@ module _ {F : Type 0} (m : Meaning F) (s : List ℕ) where
       wrong w (inl f) = inl (subst (λ x. LayoutFault x l w) walked.seen f)
       wrong w (inr f) = inr (t, walked.spelled, f)
 
-      pub walk-on : (k : Letter) (b : Above) (u : Tables F) → length below < length rest → (letter_on l ≡ Some k) × ((w : Refusal) → WrongUnder m t a l w → ⊥) × Adds m t k (fields_on l) u → b.letter ≡ Some k → b.sight ≡ (a.sight || says_sight l) → Walked m s below (n + 1) b u
-      walk-on k b u shorter added letter sight = record {
+      pub walk-on : (k : Letter) (b : Above) (u : Tables F) → (letter_on l ≡ Some k) × ((w : Refusal) → WrongUnder m t a l w → ⊥) × Adds m t k (fields_on l) u → b.letter ≡ Some k → b.sight ≡ (a.sight || says_sight l) → Walked m s below (n + 1) b u
+      walk-on k b u added letter sight = record {
         left = drop-next (lines_of s) n l (lines_of below) here;
         seen = above_of-push (take n (lines_of s)) l k b added.0 letter (sight ∙ ap (λ x. x.sight || says_sight l) walked.seen) ∙ ap above_of (sym (take_next (lines_of s) n l (lines_of below) here));
         spelled = subst (λ ls. Spelled m ls u) (sym (take_next (lines_of s) n l (lines_of below) here)) (spelled-push m no_tables (take n (lines_of s)) t l k u walked.spelled added.0 added.2);
         clear = clear-more (Wrong m) (lines_of s) n l (nth_here (lines_of s) n l (lines_of below) here) walked.clear (λ w f. added.1 w (under w f));
-        within = omega (arith, nth_within (lines_of s) n l (nth_here (lines_of s) n l (lines_of below) here));
-        bytes = omega (arith, walked.bytes);
+        within = omega (arith, slice_get_within (lines_of s) n l (nth_here (lines_of s) n l (lines_of below) here));
       }
 
       pub stopped : (w : Refusal) (f : Fault) → length s ≤ depot_limit → (w ≡ NoMemory) ⊎ Lowest (WrongUnder m t a l) w → Placed (n + 1) w f → DepotTold m s f
@@ -91,6 +90,5 @@ module _ {F : Type 0} (m : Meaning F) (s : List ℕ) where
         spelled = subst (λ ls. Spelled m ls t) whole walked.spelled;
       }
 
-      pub ends_without_goal : (f : Fault) → (a.letter ≡ Some Goal → ⊥) → f.sheet ≡ Some Depot → f.line ≡ n → f.refusal ≡ NoGoal → DepotTold m s f
-      ends_without_goal f not on at for =
-          placed n NoGoal f on at for (subst (λ i. DepotRefused m s i NoGoal) (sym all) (end_refused depot_limit (Wrong m) Unfinished (late m) s few clear-all NoGoal (refl, λ is. not (letter_is ∙ is)) (λ v f. f.0)))
+      pub ends_without_goal : (f : Fault) → (a.letter ≡ Some Goal → ⊥) → f.sheet ≡ Some Depot → f.line ≡ length (lines_of s) → f.refusal ≡ NoGoal → DepotTold m s f
+      ends_without_goal f not on at for = placed (length (lines_of s)) NoGoal f on at for (end_refused depot_limit (Wrong m) Unfinished (late m) s few clear-all NoGoal (refl, λ is. not (letter_is ∙ is)) (λ v f. f.0))

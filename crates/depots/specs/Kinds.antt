@@ -1,5 +1,6 @@
 -- What the reading of a sheet asks of a kind. Assumes nothing.
 use Rattle.std.specs.Prelude.{ℕ, Bool, List, codes, Result}
+use Rattle.facts.specs.declared.kinds.Kind.{Ghosts}
 use Rattle.facts.specs.declared.names.NoFact.{NoFact}
 use Rattle.facts.specs.declared.plain.PlainFact.{PlainFact}
 use Rattle.facts.specs.declared.sighted.SightFact.{SightFact}
@@ -17,6 +18,10 @@ pub record Meaning (F : Type 0) : Type 0 where
 -- A meaning of its four parts.
 abbrev pub meaning : {F : Type 0} → List ℕ → (Listing → List ℕ → Result F NoFact) → (F → F → Bool) → (F → Bool) → Meaning F
 meaning w r a c = record { wording = w; reading = r; alike = a; certain = c }
+
+-- The meaning that a kind has, by the fact that a text is under the texts of the listed names.
+abbrev pub meaning_of : {K F : Type 0} → Ghosts K F → (Listing → List ℕ → Result F NoFact) → Meaning F
+meaning_of kind reading = meaning kind.wording reading kind.alike kind.certain
 
 -- The plain kind.
 abbrev pub plain_meaning : Meaning PlainFact

@@ -1,8 +1,9 @@
 -- How a field of settings or strikes is read. Assumes nothing.
-use Rattle.std.specs.Prelude.{◌≡◌, ℕ, Bool, false, cond, ◌||◌, List, [], ◌∷◌, map, length, take, Ok, Err, codes, Result, nat_le}
+use Rattle.std.specs.Prelude.{◌≡◌, ℕ, Bool, false, cond, ◌||◌, List, [], ◌∷◌, map, length, Ok, Err, codes, Result, nat_le}
 use Rattle.std.specs.Str.{bytes_eq}
 use Rattle.sheets.specs.Pieces.{pieces}
 use Rattle.facts.specs.declared.names.NoFact.{NoFact}
+use Rattle.facts.specs.ShortLists.{entries_of}
 use Rattle.facts.specs.declared.names.NoFact.TheVariants as none
 use Rattle.depots.specs.declared.fact_list.FactList.{FactList}
 use Rattle.depots.specs.declared.troubles.Trouble.{Trouble}
@@ -11,7 +12,7 @@ use Rattle.depots.specs.Fields.{among}
 
 -- The numbers of a list, in their order.
 abbrev pub numbers_of : FactList → List ℕ
-numbers_of l = take l.count l.numbers
+numbers_of l = entries_of l.kept
 
 -- A list as it was read, or what is wrong with it, is this answer.
 abbrev pub Comes : Result (List ℕ) Trouble → Result FactList Trouble → Type 0

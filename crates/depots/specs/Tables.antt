@@ -1,13 +1,12 @@
 -- The tables that the lines of a depot sheet fill. Assumes nothing.
 use Rattle.std.specs.Prelude.{ℕ, List, [], map, take, vec_items}
-use Rattle.sheets.specs.Listed.{text_of}
 use Rattle.facts.specs.declared.kinds.Kind.{Ghosts}
 use Rattle.facts.specs.Texts.{Listing, listing_of}
 use Rattle.formulas.specs.Formulas.{Formula}
 use Rattle.formulas.specs.Shapes.{numbers}
 use Rattle.depots.specs.declared.depot.Depot.{Depot}
 use Rattle.depots.specs.declared.depot.Effect.{Effect as KeptEffect}
-use Rattle.depots.specs.declared.depot.Move.{Move as KeptMove}
+use Rattle.depots.specs.declared.depot.NamedMove.{NamedMove}
 use Rattle.depots.specs.Settings.{numbers_of}
 
 -- An effect (a conditional effect): its condition, told by its formula number, and the facts that it sets and strikes.
@@ -76,9 +75,9 @@ module _ {F : Type 0} (t : Tables F) where
 abbrev pub effect_of : KeptEffect → Effect
 effect_of e = record { condition = e.condition; settings = numbers_of e.settings; strikes = numbers_of e.strikes }
 
--- A move as a depot keeps it.
-abbrev pub move_of : KeptMove → Move
-move_of m = record { need = m.need; effects_before = m.effects_before }
+-- A move as a depot keeps it, beside its name.
+abbrev pub move_of : NamedMove → Move
+move_of m = record { need = m.numbers.need; effects_before = m.numbers.effects_before }
 
 -- The tables of a depot.
 abbrev pub tables_of : {K F : Type 0} {kind : Ghosts K F} → Depot K F kind → Tables F
@@ -86,9 +85,9 @@ tables_of d = record {
   zones = (listing_of d.names).zones;
   matters = (listing_of d.names).matters;
   facts = vec_items d.facts;
-  texts = map text_of (vec_items d.texts);
+  texts = vec_items d.texts;
   started = vec_items d.started;
-  names = map text_of (vec_items d.move_names);
+  names = map (λ m. m.name) (vec_items d.moves);
   moves = map move_of (vec_items d.moves);
   effects = map effect_of (take d.effect_count (vec_items d.effects));
   formulas = map numbers (vec_items d.formulas);

@@ -1,18 +1,22 @@
 -- What can be wrong with the fields of a line, and which of it is told. Assumes nothing.
-use Rattle.std.specs.Prelude.{◌≡◌, ℕ, ◌+◌, Bool, true, cond, ◌⊎◌, List, [], ◌∷◌, Some, None, Ok, Err, Option, Result, nat_le}
+use Rattle.std.specs.Prelude.{◌≡◌, ℕ, ◌+◌, Bool, true, cond, ◌⊎◌, List, [], ◌∷◌, Some, None, Option, nat_le}
+use Rattle.std.specs.Option.{option_map}
 use Rattle.sheets.specs.declared.refusals.Refusal.{Refusal}
 use Rattle.sheets.specs.declared.refusals.Refusal.TheVariants as told
 use Rattle.sheets.specs.Refusals.{number_of}
 use Rattle.depots.specs.declared.troubles.Trouble.{Trouble}
 use Rattle.depots.specs.declared.troubles.Trouble.TheVariants.{NotItsForm, NotListed, Twice, AlwaysTrue}
 
--- The refusal of a line for what is wrong with one of its fields.
+-- The refusal of a line for a trouble with one of its fields.
+abbrev pub refusal_at : Trouble → ℕ → Refusal
+refusal_at NotItsForm field = told.NotItsForm field
+refusal_at NotListed field = told.NotListed field
+refusal_at Twice field = told.Twice field
+refusal_at AlwaysTrue field = told.AlwaysTrue field
+
+-- The refusal of a line for what is wrong with one of its fields, if anything is.
 abbrev pub refusal_of : Option Trouble → ℕ → Option Refusal
-refusal_of None field = None
-refusal_of (Some NotItsForm) field = Some (told.NotItsForm field)
-refusal_of (Some NotListed) field = Some (told.NotListed field)
-refusal_of (Some Twice) field = Some (told.Twice field)
-refusal_of (Some AlwaysTrue) field = Some (told.AlwaysTrue field)
+refusal_of trouble field = option_map (λ t. refusal_at t field) trouble
 
 -- Of two refusals the one with the lower number, and where the numbers are one, the first.
 abbrev pub lower_of : Option Refusal → Option Refusal → Option Refusal
@@ -24,11 +28,6 @@ lower_of (Some a) (Some b) = cond (nat_le (number_of a) (number_of b)) (Some a) 
 abbrev pub FieldFault : ℕ → List (Option Trouble) → Refusal → Type 0
 FieldFault field [] w = ⊥
 FieldFault field (t ∷ ts) w = (refusal_of t field ≡ Some w) ⊎ FieldFault (field + 1) ts w
-
--- The trouble with what was read of a field, if there is one.
-abbrev pub trouble_in : {X : Type 0} → Result X Trouble → Option Trouble
-trouble_in (Ok x) = None
-trouble_in (Err t) = Some t
 
 -- What is wrong with a line whose fields from the second on have these troubles, and which takes a table over its limit
 -- or not.

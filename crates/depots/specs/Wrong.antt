@@ -1,5 +1,6 @@
 -- What is wrong with the fields of a line, under the tables of the lines above it. Assumes nothing.
 use Rattle.std.specs.Prelude.{◌≡◌, ℕ, ◌+◌, ◌-◌, ◌<◌, ◌≤◌, true, false, ◌⊎◌, List, [], ◌∷◌, length, Some, Result}
+use Rattle.std.specs.Result.{result_err}
 use Rattle.std.specs.Str.{bytes_eq}
 use Rattle.sheets.specs.declared.letters.Letter.{Letter}
 use Rattle.sheets.specs.declared.letters.Letter.TheVariants as letter
@@ -18,7 +19,7 @@ use Rattle.depots.specs.Fields as fields
 use Rattle.depots.specs.Kinds.{Meaning}
 use Rattle.depots.specs.Settings.{list_reading}
 use Rattle.depots.specs.Tables.{Move, Tables, listing}
-use Rattle.depots.specs.Troubles.{refusal_of, trouble_in}
+use Rattle.depots.specs.Troubles.{refusal_of}
 
 -- The second, third and fourth field of a line, empty where the line has none.
 pub record Fields : Type 0 where
@@ -112,10 +113,10 @@ module _ {F : Type 0} (m : Meaning F) (t : Tables F) where
   FieldWrong no_field text trouble = ⊥
   FieldWrong word text trouble = (trouble ≡ NotItsForm) × (bytes_eq text m.wording ≡ false)
   FieldWrong (new_name listed) text trouble = fields.new_name listed text ≡ Some trouble
-  FieldWrong new_fact text trouble = trouble_in (fields.new_fact m.alike m.certain (m.reading (listing t) text) t.facts) ≡ Some trouble
-  FieldWrong new_start text trouble = trouble_in (fields.new_start (number_among text) t.started) ≡ Some trouble
+  FieldWrong new_fact text trouble = result_err (fields.new_fact m.alike m.certain (m.reading (listing t) text) t.facts) ≡ Some trouble
+  FieldWrong new_start text trouble = result_err (fields.new_start (number_among text) t.started) ≡ Some trouble
   FieldWrong formula text trouble = FormulaWrong number_among text trouble
-  FieldWrong fact_list text trouble = trouble_in (list_reading number_among text) ≡ Some trouble
+  FieldWrong fact_list text trouble = result_err (list_reading number_among text) ≡ Some trouble
 
   -- A refusal is that of what is wrong with a field, which it names.
   abbrev pub WrongAt : ℕ → Sort → List ℕ → Refusal → Type 0

@@ -1,15 +1,18 @@
 // A depot of either kind, as its sheet names it.
 ghost use Rattle.std.specs.Prelude.{◌≡◌, MatchResult};
 ghost use Rattle.depots.specs.AnyDepots.{AnyRead, AnyTold, any_inventory, inventory_of, names_sight};
+ghost use Rattle.depots.specs.Kinds.{meaning_of};
+ghost use Rattle.depots.specs.Spelling.{DepotRead, DepotTold};
 ghost use Rattle.depots.specs.Tables.{tables_of};
 
 use crate::depot::Depot;
 use facts::kinds::Kind;
 use facts::plain::Plain;
 use facts::sight::Sight;
+use facts::text_kinds::TextKind;
 use sheets::faults::Fault;
 use sheets::layout::says_sight;
-use sheets::lines::first_line;
+use sheets::lines::Lines;
 use std::alloc::Global;
 
 // A depot of the plain or of the sight kind.
@@ -33,10 +36,18 @@ pub struct Inventory {
 fn names_sight(sheet: &[u8]) -> bool
     ensures { result ≡ names_sight sheet.now }
 {
-    match first_line(sheet) {
-        None => false,
-        Some((line, _)) => says_sight(&line),
-    }
+    Lines::of(sheet)
+        .next()
+        .is_some_and(|line| says_sight(&line))
+}
+
+// Reads a depot sheet of one kind.
+fn read_of_kind<K: TextKind>(heap: Global, sheet: &[u8]) -> Result<Depot<K>, Fault>
+    ensures { MatchResult result (λ d. DepotRead (meaning_of K.Kind K.reading_under) sheet.now (tables_of d)) (DepotTold (meaning_of K.Kind K.reading_under) sheet.now) }
+{
+    let mut depot = Depot::empty(heap);
+    depot.read(heap, sheet)?;
+    Ok(depot)
 }
 
 // Reads a depot sheet of either kind; a sheet that is refused leaves no depot.
@@ -44,13 +55,9 @@ pub fn read(heap: Global, sheet: &[u8]) -> Result<AnyDepot, Fault>
     ensures { MatchResult result (AnyRead sheet.now) (AnyTold sheet.now) }
 {
     if names_sight(sheet) {
-        let mut depot: Depot<Sight> = Depot::empty(heap);
-        depot.read(heap, sheet)?;
-        Ok(AnyDepot::Sight(depot))
+        Ok(AnyDepot::Sight(read_of_kind(heap, sheet)?))
     } else {
-        let mut depot: Depot<Plain> = Depot::empty(heap);
-        depot.read(heap, sheet)?;
-        Ok(AnyDepot::Plain(depot))
+        Ok(AnyDepot::Plain(read_of_kind(heap, sheet)?))
     }
 }
 

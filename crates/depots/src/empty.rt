@@ -10,7 +10,8 @@ use std::alloc::Global;
 impl<K: Kind> Depot<K> {
     // A depot with nothing in it.
     pub fn empty(heap: Global) -> Depot<K>
-        ensures { tables_of result ≡ no_tables }
+        ensures tables { tables_of result ≡ no_tables }
+        ensures effects { result.effect_count ≡ 0 }
     {
         Depot {
             names: Names {
@@ -20,7 +21,6 @@ impl<K: Kind> Depot<K> {
             facts: Vec::new(heap),
             texts: Vec::new(heap),
             started: Vec::new(heap),
-            move_names: Vec::new(heap),
             moves: Vec::new(heap),
             effects: Vec::new(heap),
             effect_count: 0,
@@ -28,22 +28,5 @@ impl<K: Kind> Depot<K> {
             formula_size: 0,
             goal: 0,
         }
-    }
-
-    // Takes everything out.
-    pub(crate) fn clear(&mut self)
-        ensures { tables_of self.new ≡ no_tables }
-    {
-        self.names.zones.clear();
-        self.names.matters.clear();
-        self.facts.clear();
-        self.texts.clear();
-        self.started.clear();
-        self.move_names.clear();
-        self.moves.clear();
-        self.effect_count = 0;
-        self.formulas.clear();
-        self.formula_size = 0;
-        self.goal = 0;
     }
 }

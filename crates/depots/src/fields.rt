@@ -1,13 +1,13 @@
 // The fields of a line, read under what the lines above list.
 ghost use Rattle.std.specs.Prelude.{◌≡◌, map};
-ghost use Rattle.depots.specs.Fields.{new_name, as_trouble, new_fact, among, new_start};
-ghost use Rattle.facts.specs.Listed.{number_of_text};
-ghost use Rattle.sheets.specs.Listed.{text_of};
+ghost use Rattle.std.specs.Result.{result_err};
+ghost use Rattle.depots.specs.Fields.{unlisted_name, new_name, new_fact, new_start};
+ghost use Rattle.facts.specs.Numbering.{number_under};
 
 use crate::troubles::Trouble;
 use facts::kinds::Kind;
-use facts::listed::{number_of, number_of_same};
-use facts::names::{Names, NoFact};
+use facts::listed::number_of_same;
+use facts::listed_facts::ListedFacts;
 use sheets::listed::Name;
 use sheets::{listed, names};
 
@@ -19,74 +19,52 @@ pub struct Fields<'a> {
     pub fourth: &'a [u8],
 }
 
-// What is wrong with a field that lists a new name.
-pub fn new_name(listed: &[Name], text: &[u8]) -> Option<Trouble>
-    ensures { result ≡ new_name (map text_of listed.now) text.now }
+// What is wrong with a text that is to be a new name, if anything is.
+pub(crate) fn unlisted_name(is_listed: bool, text: &[u8]) -> Result<(), Trouble>
+    ensures { result_err result ≡ unlisted_name is_listed text.now }
 {
     if !names::is_name(text) {
-        return Some(Trouble::NotItsForm);
+        return Err(Trouble::NotItsForm);
     }
-    match listed::find(listed, text) {
-        Some(_) => Some(Trouble::Twice),
-        None => None,
-    }
-}
-
-fn trouble(why: NoFact) -> Trouble
-    ensures { result ≡ as_trouble why }
-{
-    match why {
-        NoFact::NotItsForm => Trouble::NotItsForm,
-        NoFact::NotListed => Trouble::NotListed,
+    if is_listed {
+        Err(Trouble::Twice)
+    } else {
+        Ok(())
     }
 }
 
-pub(crate) fn is_among(number: usize, numbers: &[usize]) -> bool
-    ensures { result ≡ among number numbers.now }
+// What is wrong with a field that lists a new name, if anything is.
+pub fn new_name(listed: &[Name], text: &[u8]) -> Result<(), Trouble>
+    ensures { result_err result ≡ new_name listed.now text.now }
 {
-    for n in numbers {
-        if *n == number {
-            return true;
-        }
-    }
-    false
+    unlisted_name(listed::find(listed, text).is_some(), text)
 }
 
 // The fact that a field lists anew.
-pub fn new_fact<K: Kind>(names: &Names, facts: &[K::Fact], text: &[u8]) -> Result<K::Fact, Trouble>
-    ensures { result ≡ new_fact K.alike K.certain (K.reading names.now text.now) facts.now }
+pub fn new_fact<K: Kind>(listed: &ListedFacts<K>, text: &[u8]) -> Result<K::Fact, Trouble>
+    ensures { result ≡ new_fact K.alike K.certain (K.reading listed.now.names.now text.now) listed.now.facts.now }
 {
-    match K::read(names, text) {
-        Err(why) => Err(trouble(why)),
-        Ok(fact) => {
-            if number_of_same::<K>(facts, &fact).is_some() {
-                return Err(Trouble::Twice);
-            }
-            if K::always_true(&fact) {
-                return Err(Trouble::AlwaysTrue);
-            }
-            Ok(fact)
-        }
+    let fact = K::read(listed.names, text)?;
+    if number_of_same::<K>(listed.facts, &fact).is_some() {
+        return Err(Trouble::Twice);
     }
+    if K::always_true(&fact) {
+        return Err(Trouble::AlwaysTrue);
+    }
+    Ok(fact)
 }
 
 // The listed fact that a field starts.
 pub fn new_start<K: Kind>(
-    names: &Names,
-    facts: &[K::Fact],
+    listed: &ListedFacts<K>,
     started: &[usize],
     text: &[u8],
 ) -> Result<usize, Trouble>
-    ensures { result ≡ new_start (number_of_text K.alike (K.reading names.now) facts.now text.now) started.now }
+    ensures { result ≡ new_start (number_under K.Kind listed.now text.now) started.now }
 {
-    match number_of::<K>(names, facts, text) {
-        Err(why) => Err(trouble(why)),
-        Ok(number) => {
-            if is_among(number, started) {
-                Err(Trouble::Twice)
-            } else {
-                Ok(number)
-            }
-        }
+    let number = listed.number_of(text)?;
+    if started.contains(&number) {
+        return Err(Trouble::Twice);
     }
+    Ok(number)
 }

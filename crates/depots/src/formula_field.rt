@@ -1,27 +1,27 @@
 // How a field with a formula is read.
-ghost use Rattle.std.specs.Prelude.{◌≡◌, ◌+◌, ◌<◌, ◌≤◌, MatchResult};
-ghost use Rattle.std.specs.Option as options;
-ghost use Rattle.sheets.specs.declared.refusals.Refusal.TheVariants.{NoMemory};
-ghost use Rattle.depots.specs.FormulaFields.{AddedTo, FormulaRead, trouble_of};
-ghost use Rattle.facts.specs.Listed.{number_of_text};
+ghost use Rattle.std.specs.Prelude.{◌≡◌, ◌+◌, ◌<◌, MatchResult};
+ghost use Rattle.sheets.specs.declared.refusals.Refusal.TheVariants.{NoMemory, TableFull};
+ghost use Rattle.depots.specs.FormulaFields.{AddedTo, FormulaRead};
+ghost use Rattle.facts.specs.Numbering.{number_under};
 
 use crate::troubles::Trouble;
 use facts::kinds::Kind;
-use facts::names::Names;
+use facts::listed_facts::ListedFacts;
 use formulas::resolve::Unresolved;
 use formulas::tree::{Formula, Unread};
 use formulas::{reading, resolve, size};
 use sheets::refusals::Refusal;
 use std::alloc::Global;
 
-// A formula over the numbers of listed facts, with its size, or what is wrong with the field.
+// A formula over the numbers of listed facts, with its size.
 #[derive(Drop)]
-pub enum FormulaField {
-    Read(Formula<usize>, usize),
-    Wrong(Trouble),
+pub struct SizedFormula {
+    pub(crate) formula: Formula<usize>,
+    pub(crate) size: usize,
 }
 
-// A formula that a line adds, and how large all formulas are with it.
+// A formula that a line adds, and how large all formulas are with it: a type of its own, so that a size is not taken for a
+// total.
 #[derive(Drop)]
 pub struct NewFormula {
     pub(crate) formula: Formula<usize>,
@@ -31,55 +31,39 @@ pub struct NewFormula {
 // The largest that the formulas of a sheet may be together.
 const MOST_SIZE: usize = 1024;
 
-// How large formulas are with one more, unless that is too large.
-fn grown(sum: usize, size: usize) -> Option<usize>
-    ensures { options.MatchOption result (1024 < sum + size) (λ n. (n ≡ sum + size) × (n ≤ 1024)) }
-{
-    let total = sum.checked_add(size)?;
-    if total > MOST_SIZE { None } else { Some(total) }
-}
-
-impl FormulaField {
+impl SizedFormula {
     // The formula added to others that are so large together, unless they become too large.
-    pub(crate) fn added_to(self, sum: usize) -> Option<NewFormula>
-        ensures { AddedTo sum self result }
+    pub(crate) fn added_to(self, sum: usize) -> Result<NewFormula, Refusal>
+        ensures { MatchResult result (AddedTo sum self) (λ w. (w ≡ TableFull) × (1024 < sum + self.size)) }
     {
-        match self {
-            FormulaField::Wrong(_) => None,
-            FormulaField::Read(formula, size) => match grown(sum, size) {
-                None => None,
-                Some(total) => Some(NewFormula { formula, total }),
-            },
-        }
-    }
-
-    pub(crate) fn trouble(&self) -> Option<Trouble>
-        ensures { result ≡ trouble_of self.now }
-    {
-        match self {
-            FormulaField::Read(_, _) => None,
-            FormulaField::Wrong(trouble) => Some(*trouble),
+        let SizedFormula { formula, size } = self;
+        match sum.checked_add(size) {
+            Some(total) if total <= MOST_SIZE => Ok(NewFormula { formula, total }),
+            _ => Err(Refusal::TableFull),
         }
     }
 }
 
-// What a field with a formula holds. Memory can be wanting.
+// What a field with a formula holds, or what is wrong with it. Memory can be wanting.
 pub(crate) fn formula_field<K: Kind>(
     heap: Global,
-    names: &Names,
-    facts: &[K::Fact],
+    listed: &ListedFacts<K>,
     text: &[u8],
-) -> Result<FormulaField, Refusal>
-    ensures { MatchResult result (FormulaRead (number_of_text K.alike (K.reading names.now) facts.now) text.now) (λ w. w ≡ NoMemory) }
+) -> Result<Result<SizedFormula, Trouble>, Refusal>
+    ensures { MatchResult result (FormulaRead (number_under K.Kind listed.now) text.now) (λ w. w ≡ NoMemory) }
 {
+    // No `?` here: of each error one case ends the line, and the others are what is wrong with this field.
     match reading::read(heap, text) {
         Err(Unread::NoMemory) => Err(Refusal::NoMemory),
-        Err(Unread::NotItsForm) => Ok(FormulaField::Wrong(Trouble::NotItsForm)),
-        Ok(formula) => match resolve::resolve::<K>(heap, names, facts, &formula) {
+        Err(Unread::NotItsForm) => Ok(Err(Trouble::NotItsForm)),
+        Ok(read) => match resolve::resolve(heap, listed, &read) {
             Err(Unresolved::NoMemory) => Err(Refusal::NoMemory),
-            Err(Unresolved::NotItsForm) => Ok(FormulaField::Wrong(Trouble::NotItsForm)),
-            Err(Unresolved::NotListed) => Ok(FormulaField::Wrong(Trouble::NotListed)),
-            Ok(numbered) => Ok(FormulaField::Read(numbered, size::size(&formula))),
+            Err(Unresolved::NotItsForm) => Ok(Err(Trouble::NotItsForm)),
+            Err(Unresolved::NotListed) => Ok(Err(Trouble::NotListed)),
+            Ok(formula) => Ok(Ok(SizedFormula {
+                formula,
+                size: size::size(&read),
+            })),
         },
     }
 }

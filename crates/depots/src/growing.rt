@@ -5,12 +5,12 @@ ghost use Rattle.depots.specs.FormulaFields.{with_formula};
 ghost use Rattle.depots.specs.Settings.{numbers_of};
 ghost use Rattle.depots.specs.Tables.{tables_of, with_effects, with_moves};
 
-use crate::depot::{Depot, Effect, Move};
+use crate::depot::{Depot, Effect, Move, NamedMove};
 use crate::effect_table::fill;
-use crate::entries::push_text;
 use crate::fact_list::FactList;
 use crate::formula_field::NewFormula;
 use facts::kinds::Kind;
+use sheets::listed::Name;
 use sheets::refusals::Refusal;
 use std::alloc::Global;
 
@@ -20,9 +20,7 @@ impl<K: Kind> Depot<K> {
         ensures { MatchResult result (λ _. tables_of self.new ≡ with_formula (tables_of self.old) new) (λ w. w ≡ NoMemory) }
     {
         let NewFormula { formula, total } = new;
-        if self.formulas.push(formula).is_err() {
-            return Err(Refusal::NoMemory);
-        }
+        self.formulas.push(formula)?;
         self.formula_size = total;
         Ok(())
     }
@@ -31,16 +29,12 @@ impl<K: Kind> Depot<K> {
     pub(crate) fn push_move(&mut self, heap: Global, name: &[u8]) -> Result<(), Refusal>
         ensures { MatchResult result (λ _. tables_of self.new ≡ with_moves (tables_of self.old) ((tables_of self.old).names ++ name.now ∷ []) ((tables_of self.old).moves ++ record { need = length (tables_of self.old).formulas; effects_before = length (tables_of self.old).effects } ∷ [])) (λ w. w ≡ NoMemory) }
     {
-        let new = Move {
+        let name = Name::new(heap, name)?;
+        let numbers = Move {
             need: self.formulas.len(),
             effects_before: self.effects().len(),
         };
-        if self.moves.push(new).is_err() {
-            return Err(Refusal::NoMemory);
-        }
-        if !push_text(heap, &mut self.move_names, name) {
-            return Err(Refusal::NoMemory);
-        }
+        self.moves.push(NamedMove { name, numbers })?;
         Ok(())
     }
 
@@ -57,12 +51,7 @@ impl<K: Kind> Depot<K> {
             settings,
             strikes,
         };
-        match fill(&mut self.effects, self.effect_count, new) {
-            None => Err(Refusal::NoMemory),
-            Some(count) => {
-                self.effect_count = count;
-                Ok(())
-            }
-        }
+        self.effect_count = fill(&mut self.effects, self.effect_count, new)?;
+        Ok(())
     }
 }

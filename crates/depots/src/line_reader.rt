@@ -2,7 +2,7 @@
 ghost use Rattle.std.specs.Prelude.{◌≡◌, [], slice_index_or};
 ghost use Rattle.sheets.specs.Lines.{shown};
 ghost use Rattle.sheets.specs.Pieces.{pieces};
-ghost use Rattle.depots.specs.Kinds.{meaning};
+ghost use Rattle.depots.specs.Kinds.{meaning_of};
 ghost use Rattle.depots.specs.Spelling.{LineAdded, LineTaken, fields_on};
 ghost use Rattle.depots.specs.Tables.{tables_of};
 ghost use Rattle.depots.specs.Wrong.{shown_fields};
@@ -23,10 +23,7 @@ const TAB: u8 = 9;
 fn field<'a>(text: &'a [u8], index: usize) -> &'a [u8]
     ensures { result.now ≡ slice_index_or (pieces 9 text.now) index [] }
 {
-    match pieces::piece(text, TAB, index) {
-        Some(field) => field,
-        None => &[],
-    }
+    pieces::piece(text, TAB, index).unwrap_or(&[])
 }
 
 // The fields of a line after its letter.
@@ -43,8 +40,9 @@ fn fields_of<'a>(line: &Line<'a>) -> Fields<'a>
 impl<K: TextKind> Depot<K> {
     // Takes a line with a letter into the tables.
     fn take(&mut self, heap: Global, letter: Letter, fields: Fields) -> Result<(), Refusal>
-        ensures { LineTaken (meaning K.wording K.reading_under K.alike K.certain) (tables_of self.old) letter (shown_fields fields.entry) result (tables_of self.new) }
+        ensures { LineTaken (meaning_of K.Kind K.reading_under) (tables_of self.old) letter (shown_fields fields.entry) result (tables_of self.new) }
     {
+        // A match, since the letters are a closed list, and closures in a table would borrow the depot all at once.
         match letter {
             Letter::Kind => self.take_kind(fields),
             Letter::Zone => self.take_zone(heap, fields),
@@ -64,7 +62,7 @@ impl<K: TextKind> Depot<K> {
         above: &Above,
         line: &Line,
     ) -> Result<Letter, Refusal>
-        ensures { LineAdded (meaning K.wording K.reading_under K.alike K.certain) (tables_of self.old) above.now (shown line.now) result (tables_of self.new) }
+        ensures { LineAdded (meaning_of K.Kind K.reading_under) (tables_of self.old) above.now (shown line.now) result (tables_of self.new) }
     {
         let letter = above.judge_letter(line)?;
         self.take(heap, letter, fields_of(line))?;

@@ -3,7 +3,7 @@ ghost use Rattle.sheets.specs.declared.letters.Letter.TheVariants as letter;
 ghost use Rattle.std.specs.Prelude.{Decides};
 ghost use Rattle.depots.specs.EffectFields.{EffectRead, EffectsFull};
 ghost use Rattle.depots.specs.FormulaFields.{with_formula};
-ghost use Rattle.depots.specs.Kinds.{meaning};
+ghost use Rattle.depots.specs.Kinds.{meaning_of};
 ghost use Rattle.depots.specs.Spelling.{AddsFormula, LineRead, LineTaken};
 ghost use Rattle.depots.specs.Tables.{tables_of};
 ghost use Rattle.depots.specs.Wrong.{shown_fields};
@@ -13,7 +13,7 @@ use crate::effect_table::{MOST_EFFECTS, MOST_OF_MOVE};
 use crate::fact_list::FactList;
 use crate::fields::Fields;
 use crate::formula_field::NewFormula;
-use crate::troubles::{lowest, trouble_in};
+use crate::troubles::all_read;
 use facts::text_kinds::TextKind;
 use sheets::refusals::Refusal;
 use std::alloc::Global;
@@ -31,23 +31,18 @@ pub struct NewEffect {
 impl<K: TextKind> Depot<K> {
     // The need of a move that a line lists.
     fn read_move(&self, heap: Global, fields: Fields) -> Result<NewFormula, Refusal>
-        ensures { LineRead (meaning K.wording K.reading_under K.alike K.certain) (tables_of self.now) letter.Move (shown_fields fields.entry) (λ new. AddsFormula (meaning K.wording K.reading_under K.alike K.certain) (tables_of self.now) (shown_fields fields.entry).third (with_formula (tables_of self.now) new)) result }
+        ensures { LineRead (meaning_of K.Kind K.reading_under) (tables_of self.now) letter.Move (shown_fields fields.entry) (λ new. AddsFormula (meaning_of K.Kind K.reading_under) (tables_of self.now) (shown_fields fields.entry).third (with_formula (tables_of self.now) new)) result }
     {
         let need = self.formula(heap, fields.third)?;
-        if let Some(refusal) = lowest(self.new_move_name(fields.second), need.trouble(), None) {
-            return Err(refusal);
-        }
+        let (_, need, _) = all_read(self.new_move_name(fields.second), need, Ok(()))?;
         if self.moves.len() >= MOST_MOVES {
             return Err(Refusal::TableFull);
         }
-        match need.added_to(self.formula_size) {
-            None => Err(Refusal::TableFull),
-            Some(new) => Ok(new),
-        }
+        need.added_to(self.formula_size)
     }
 
     pub(crate) fn take_move(&mut self, heap: Global, fields: Fields) -> Result<(), Refusal>
-        ensures { LineTaken (meaning K.wording K.reading_under K.alike K.certain) (tables_of self.old) letter.Move (shown_fields fields.entry) result (tables_of self.new) }
+        ensures { LineTaken (meaning_of K.Kind K.reading_under) (tables_of self.old) letter.Move (shown_fields fields.entry) result (tables_of self.new) }
     {
         let need = self.read_move(heap, fields)?;
         self.push_formula(need)?;
@@ -64,33 +59,25 @@ impl<K: TextKind> Depot<K> {
 
     // The effect that a line lists.
     fn read_effect(&self, heap: Global, fields: Fields) -> Result<NewEffect, Refusal>
-        ensures { LineRead (meaning K.wording K.reading_under K.alike K.certain) (tables_of self.now) letter.Effect (shown_fields fields.entry) (EffectRead (meaning K.wording K.reading_under K.alike K.certain) (tables_of self.now) (shown_fields fields.entry)) result }
+        ensures { LineRead (meaning_of K.Kind K.reading_under) (tables_of self.now) letter.Effect (shown_fields fields.entry) (EffectRead (meaning_of K.Kind K.reading_under) (tables_of self.now) (shown_fields fields.entry)) result }
     {
-        let condition = self.formula(heap, fields.second)?;
-        let settings = self.listed_facts(fields.third);
-        let strikes = self.listed_facts(fields.fourth);
-        if let Some(refusal) = lowest(
-            condition.trouble(),
-            trouble_in(&settings),
-            trouble_in(&strikes),
-        ) {
-            return Err(refusal);
-        }
+        let (condition, settings, strikes) = all_read(
+            self.formula(heap, fields.second)?,
+            self.listed_facts(fields.third),
+            self.listed_facts(fields.fourth),
+        )?;
         if self.effects_full() {
             return Err(Refusal::TableFull);
         }
-        match condition.added_to(self.formula_size) {
-            None => Err(Refusal::TableFull),
-            Some(condition) => Ok(NewEffect {
-                condition,
-                settings: settings.unwrap_or(FactList::none()),
-                strikes: strikes.unwrap_or(FactList::none()),
-            }),
-        }
+        Ok(NewEffect {
+            condition: condition.added_to(self.formula_size)?,
+            settings,
+            strikes,
+        })
     }
 
     pub(crate) fn take_effect(&mut self, heap: Global, fields: Fields) -> Result<(), Refusal>
-        ensures { LineTaken (meaning K.wording K.reading_under K.alike K.certain) (tables_of self.old) letter.Effect (shown_fields fields.entry) result (tables_of self.new) }
+        ensures { LineTaken (meaning_of K.Kind K.reading_under) (tables_of self.old) letter.Effect (shown_fields fields.entry) result (tables_of self.new) }
     {
         let NewEffect {
             condition,
@@ -103,20 +90,14 @@ impl<K: TextKind> Depot<K> {
 
     // The goal that a line has.
     fn read_goal(&self, heap: Global, fields: Fields) -> Result<NewFormula, Refusal>
-        ensures { LineRead (meaning K.wording K.reading_under K.alike K.certain) (tables_of self.now) letter.Goal (shown_fields fields.entry) (λ new. AddsFormula (meaning K.wording K.reading_under K.alike K.certain) (tables_of self.now) (shown_fields fields.entry).second (with_formula (tables_of self.now) new)) result }
+        ensures { LineRead (meaning_of K.Kind K.reading_under) (tables_of self.now) letter.Goal (shown_fields fields.entry) (λ new. AddsFormula (meaning_of K.Kind K.reading_under) (tables_of self.now) (shown_fields fields.entry).second (with_formula (tables_of self.now) new)) result }
     {
-        let goal = self.formula(heap, fields.second)?;
-        if let Some(refusal) = lowest(goal.trouble(), None, None) {
-            return Err(refusal);
-        }
-        match goal.added_to(self.formula_size) {
-            None => Err(Refusal::TableFull),
-            Some(new) => Ok(new),
-        }
+        let (goal, _, _) = all_read(self.formula(heap, fields.second)?, Ok(()), Ok(()))?;
+        goal.added_to(self.formula_size)
     }
 
     pub(crate) fn take_goal(&mut self, heap: Global, fields: Fields) -> Result<(), Refusal>
-        ensures { LineTaken (meaning K.wording K.reading_under K.alike K.certain) (tables_of self.old) letter.Goal (shown_fields fields.entry) result (tables_of self.new) }
+        ensures { LineTaken (meaning_of K.Kind K.reading_under) (tables_of self.old) letter.Goal (shown_fields fields.entry) result (tables_of self.new) }
     {
         let goal = self.read_goal(heap, fields)?;
         self.push_formula(goal)?;

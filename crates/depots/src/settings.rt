@@ -1,16 +1,16 @@
 // How a field of settings or strikes is read.
-ghost use Rattle.std.specs.Prelude.{◌≡◌, ◌+◌, ◌<◌, ◌≤◌, [], ◌∷◌, ◌++◌, map, length};
+ghost use Rattle.std.specs.Prelude.{◌≡◌, ◌+◌, ◌<◌, ◌≤◌, [], ◌∷◌, ◌++◌, map, length, Err, MatchResult};
 ghost use Rattle.depots.specs.Settings.{numbers_of, Comes, repeats, gathered, list_reading};
-ghost use Rattle.facts.specs.Listed.{number_of_text};
+ghost use Rattle.facts.specs.Numbering.{number_under};
 ghost use Rattle.sheets.specs.Pieces.{pieces};
 
 use crate::fact_list::{FactList, MOST};
-use crate::fields::is_among;
 use crate::troubles::Trouble;
 use facts::kinds::Kind;
-use facts::listed::number_of;
-use facts::names::{Names, NoFact};
-use sheets::{bytes, pieces};
+use facts::listed_facts::ListedFacts;
+use facts::names::NoFact;
+use facts::short_list::ShortList;
+use sheets::pieces;
 
 const COMMA: u8 = b',';
 
@@ -18,11 +18,10 @@ impl FactList {
     // No fact.
     pub fn none() -> FactList
         ensures numbers { numbers_of result ≡ [] }
-        ensures count { result.count ≡ 0 }
+        ensures count { result.kept.count ≡ 0 }
     {
         FactList {
-            numbers: [0; MOST],
-            count: 0,
+            kept: ShortList::none(0),
         }
     }
 
@@ -30,18 +29,18 @@ impl FactList {
     pub fn numbers(&self) -> &[usize]
         ensures { result.now ≡ numbers_of self.now }
     {
-        &self.numbers[0..self.count]
+        self.kept.entries()
     }
+}
 
-    // One number more.
-    fn push(&mut self, number: usize)
-        requires { self.old.count < 8 }
-        ensures numbers { numbers_of self.new ≡ numbers_of self.old ++ number ∷ [] }
-        ensures count { self.new.count ≡ self.old.count + 1 }
-    {
-        let at = self.count;
-        self.numbers[at] = number;
-        self.count = at + 1;
+// A list that was read, with one number more, or what was wrong before.
+fn and_number(read: Result<FactList, Trouble>, number: usize) -> Result<FactList, Trouble>
+    ensures { MatchResult read (λ l. MatchResult result (λ more. numbers_of more ≡ numbers_of l ++ number ∷ []) (λ _. 8 ≤ length (numbers_of l))) (λ t. result ≡ Err t) }
+{
+    let mut list = read?;
+    match list.kept.push(number) {
+        Ok(()) => Ok(list),
+        Err(_) => Err(Trouble::NotItsForm),
     }
 }
 
@@ -49,55 +48,48 @@ impl FactList {
 fn has_repeat(numbers: &[usize]) -> bool
     ensures { result ≡ repeats numbers.now }
 {
-    for i in 0..numbers.len() {
-        if is_among(numbers[i], &numbers[i + 1..]) {
+    let mut rest = numbers;
+    while let Some((first, later)) = rest.split_first() {
+        if later.contains(first) {
             return true;
         }
+        rest = later;
     }
     false
 }
 
-// The numbers of the facts that stand between the commas of a text.
-fn gather<K: Kind>(names: &Names, facts: &[K::Fact], text: &[u8]) -> Result<FactList, Trouble>
+// The numbers of the facts that stand between the commas of a text. A `for` over the library's `split` gets no proof here,
+// since the function has a type parameter, so the text is cut by hand.
+fn gather<K: Kind>(listed: &ListedFacts<K>, text: &[u8]) -> Result<FactList, Trouble>
     requires { length (pieces 44 text.now) ≤ 8 }
-    ensures { Comes (gathered (map (number_of_text K.alike (K.reading names.now) facts.now) (pieces 44 text.now))) result }
+    ensures { Comes (gathered (map (number_under K.Kind listed.now) (pieces 44 text.now))) result }
 {
-    let mut list = FactList::none();
-    let mut unlisted = false;
+    let mut read = Ok(FactList::none());
     let mut rest = Some(text);
     while let Some(more) = rest {
         let (part, after) = pieces::cut(more, COMMA);
-        match number_of::<K>(names, facts, part) {
-            Ok(number) => list.push(number),
-            Err(why) => match why {
-                NoFact::NotListed => unlisted = true,
-                NoFact::NotItsForm => return Err(Trouble::NotItsForm),
-            },
+        match listed.number_of(part) {
+            Ok(number) => read = and_number(read, number),
+            // No `?`, since a part without its form may still follow, and is told before this.
+            Err(NoFact::NotListed) => read = Err(Trouble::NotListed),
+            Err(NoFact::NotItsForm) => return Err(Trouble::NotItsForm),
         }
         rest = after;
     }
-    if unlisted {
-        Err(Trouble::NotListed)
-    } else {
-        Ok(list)
-    }
+    read
 }
 
 // The facts that a field of settings or strikes lists.
-pub fn fact_list<K: Kind>(
-    names: &Names,
-    facts: &[K::Fact],
-    text: &[u8],
-) -> Result<FactList, Trouble>
-    ensures { Comes (list_reading (number_of_text K.alike (K.reading names.now) facts.now) text.now) result }
+pub fn fact_list<K: Kind>(listed: &ListedFacts<K>, text: &[u8]) -> Result<FactList, Trouble>
+    ensures { Comes (list_reading (number_under K.Kind listed.now) text.now) result }
 {
-    if bytes::same(text, b"-") {
+    if text == b"-".as_slice() {
         return Ok(FactList::none());
     }
     if !pieces::has_at_most(text, COMMA, MOST) {
         return Err(Trouble::NotItsForm);
     }
-    let list = gather::<K>(names, facts, text)?;
+    let list = gather(listed, text)?;
     if has_repeat(list.numbers()) {
         return Err(Trouble::Twice);
     }

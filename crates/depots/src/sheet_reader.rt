@@ -1,7 +1,7 @@
 // A depot sheet, read line by line.
-ghost use Rattle.std.specs.Prelude.{◌≡◌, None, MatchResult};
+ghost use Rattle.std.specs.Prelude.{◌≡◌, IsOkUnless, MatchResult};
 ghost use Rattle.sheets.specs.declared.refusals.Refusal.TheVariants.{NoMemory};
-ghost use Rattle.depots.specs.Kinds.{meaning};
+ghost use Rattle.depots.specs.Kinds.{meaning_of};
 ghost use Rattle.depots.specs.Spelling.{DepotRead, DepotTold, Placed};
 ghost use Rattle.depots.specs.Tables.{no_tables, tables_of};
 
@@ -10,69 +10,53 @@ use crate::effect_table::MOST_EFFECTS;
 use facts::text_kinds::TextKind;
 use sheets::faults::{Fault, Sheet};
 use sheets::layout::{Above, DEPOT_LIMIT};
-use sheets::lines::first_line;
+use sheets::lines::Lines;
 use sheets::refusals::Refusal;
 use std::alloc::Global;
 
-// That memory was wanting, which speaks of no sheet.
-fn no_memory() -> Fault
-    ensures sheet { result.sheet ≡ None }
-    ensures line { result.line ≡ 0 }
-    ensures refusal { result.refusal ≡ NoMemory }
-{
-    Fault {
-        sheet: None,
-        line: 0,
-        refusal: Refusal::NoMemory,
-    }
-}
-
-// A refusal of a line, with its place.
+// A refusal with the line at which it is told; that memory was wanting speaks of no sheet.
 fn at_line(line: usize, refusal: Refusal) -> Fault
     ensures { Placed line refusal result }
 {
     match refusal {
-        Refusal::NoMemory => no_memory(),
+        Refusal::NoMemory => Fault {
+            sheet: None,
+            line: 0,
+            refusal,
+        },
         _ => Fault::on(Sheet::Depot, line, refusal),
     }
 }
 
 impl<K: TextKind> Depot<K> {
-    // An empty depot with room for as many effects as a sheet may have, or one without where memory is wanting.
-    fn begin(&mut self, heap: Global) -> bool
-        ensures { tables_of self.new ≡ no_tables }
+    // Empties the depot and makes room for as many effects as a sheet may have, unless memory is wanting.
+    fn begin(&mut self, heap: Global) -> Result<(), Refusal>
+        ensures tables { tables_of self.new ≡ no_tables }
+        ensures memory { IsOkUnless result NoMemory }
     {
-        self.clear();
-        match vec![in heap; Effect::none(); MOST_EFFECTS] {
-            Err(_) => false,
-            Ok(effects) => {
-                self.effect_count = 0;
-                self.effects = effects;
-                true
-            }
-        }
+        *self = Depot::empty(heap);
+        self.effects = vec![in heap; Effect::none(); MOST_EFFECTS]?;
+        Ok(())
     }
 
     // Reads the lines of a sheet into an empty depot.
     fn read_lines(&mut self, heap: Global, sheet: &[u8]) -> Result<(), Fault>
         requires { tables_of self.old ≡ no_tables }
-        ensures { MatchResult result (λ _. DepotRead (meaning K.wording K.reading_under K.alike K.certain) sheet.now (tables_of self.new)) (DepotTold (meaning K.wording K.reading_under K.alike K.certain) sheet.now) }
+        ensures { MatchResult result (λ _. DepotRead (meaning_of K.Kind K.reading_under) sheet.now (tables_of self.new)) (DepotTold (meaning_of K.Kind K.reading_under) sheet.now) }
     {
         if sheet.len() > DEPOT_LIMIT {
             return Err(Fault::on(Sheet::Depot, 0, Refusal::OverLimit));
         }
         let mut above = Above::nothing();
-        let mut count = 0;
-        let mut rest = sheet;
-        while let Some((line, below)) = first_line(rest) {
-            count += 1;
+        // As `judge_layout` of `sheets` walks over them, which says why the walk is written twice.
+        for (i, line) in Lines::of(sheet).enumerate() {
             match self.read_line(heap, &above, &line) {
                 Ok(letter) => above = above.below(&line, letter),
-                Err(refusal) => return Err(at_line(count, refusal)),
+                Err(refusal) => return Err(at_line(i + 1, refusal)),
             }
-            rest = below;
         }
         if !above.is_goal() {
+            let count = Lines::of(sheet).count();
             return Err(Fault::on(Sheet::Depot, count, Refusal::NoGoal));
         }
         Ok(())
@@ -81,14 +65,12 @@ impl<K: TextKind> Depot<K> {
     // Reads a depot sheet: the depot then has the tables that the sheet spells, or the sheet is refused for its lowest fault
     // and the depot is empty.
     pub fn read(&mut self, heap: Global, sheet: &[u8]) -> Result<(), Fault>
-        ensures { MatchResult result (λ _. DepotRead (meaning K.wording K.reading_under K.alike K.certain) sheet.now (tables_of self.new)) (λ f. DepotTold (meaning K.wording K.reading_under K.alike K.certain) sheet.now f × (tables_of self.new ≡ no_tables)) }
+        ensures { MatchResult result (λ _. DepotRead (meaning_of K.Kind K.reading_under) sheet.now (tables_of self.new)) (λ f. DepotTold (meaning_of K.Kind K.reading_under) sheet.now f × (tables_of self.new ≡ no_tables)) }
     {
-        if !self.begin(heap) {
-            return Err(no_memory());
-        }
+        self.begin(heap).map_err(|refusal| at_line(0, refusal))?;
         let read = self.read_lines(heap, sheet);
         if read.is_err() {
-            self.clear();
+            *self = Depot::empty(heap);
         }
         read
     }

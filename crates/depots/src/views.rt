@@ -9,6 +9,13 @@ use crate::depot::{Depot, Effect};
 use facts::kinds::Kind;
 use formulas::tree::Formula;
 
+// The entry with a number, counted from 1, if there is one.
+fn entry_at<T>(entries: &[T], number: usize) -> Option<&T>
+    ensures { option_map (λ x. x.now) result ≡ entry_at entries.now number }
+{
+    entries.get(number.checked_sub(1)?)
+}
+
 impl<K: Kind> Depot<K> {
     // Whether nothing was read into the depot: it has no goal.
     pub fn is_empty(&self) -> bool
@@ -22,6 +29,13 @@ impl<K: Kind> Depot<K> {
         ensures { result.now ≡ (tables_of self.now).facts }
     {
         &self.facts
+    }
+
+    // The fact with a number, if it is listed.
+    pub fn fact_at(&self, number: usize) -> Option<&K::Fact>
+        ensures { option_map (λ x. x.now) result ≡ entry_at (tables_of self.now).facts number }
+    {
+        entry_at(&self.facts, number)
     }
 
     // The numbers of the started facts.
@@ -42,21 +56,19 @@ impl<K: Kind> Depot<K> {
     pub fn need_of(&self, number: usize) -> usize
         ensures { result ≡ need_of (tables_of self.now).moves number }
     {
-        let count = self.moves.len();
-        if number == 0 || number > count {
-            return 0;
+        match entry_at(&self.moves, number) {
+            Some(listed) => listed.numbers.need,
+            None => 0,
         }
-        self.moves[number - 1].need
     }
 
     // How many effects stand before those of the next move.
     fn effects_end(&self, number: usize) -> usize
         ensures { result ≡ end_of (tables_of self.now).moves (length (tables_of self.now).effects) number }
     {
-        if number < self.moves.len() {
-            self.moves[number].effects_before
-        } else {
-            self.effects().len()
+        match self.moves.get(number) {
+            Some(next) => next.numbers.effects_before,
+            None => self.effects().len(),
         }
     }
 
@@ -64,12 +76,11 @@ impl<K: Kind> Depot<K> {
     pub fn effects_of(&self, number: usize) -> &[Effect]
         ensures { map effect_of result.now ≡ effects_of (tables_of self.now).moves (tables_of self.now).effects number }
     {
-        let count = self.moves.len();
-        if number == 0 || number > count {
+        let Some(listed) = entry_at(&self.moves, number) else {
             return &[];
-        }
+        };
         let effects = self.effects();
-        let first = self.moves[number - 1].effects_before.min(effects.len());
+        let first = listed.numbers.effects_before.min(effects.len());
         let end = self.effects_end(number).min(effects.len()).max(first);
         &effects[first..end]
     }
@@ -85,11 +96,7 @@ impl<K: Kind> Depot<K> {
     pub fn formula_at(&self, number: usize) -> Option<&Formula<usize>>
         ensures { option_map (λ x. numbers x.now) result ≡ entry_at (tables_of self.now).formulas number }
     {
-        let count = self.formulas.len();
-        if number == 0 || number > count {
-            return None;
-        }
-        Some(&self.formulas[number - 1])
+        entry_at(&self.formulas, number)
     }
 }
 

@@ -1,41 +1,43 @@
 // Depot sheets with what the rules say of each, worked out by hand: the line, the number and the field of the refusal, 0 where
 // unused, and 0, 0 and 0 where the sheet is read.
+use crate::verdicts::Verdict;
 use depots::any_depot;
 use depots::depot::Depot;
 use facts::kinds::Kind;
 use facts::plain::Plain;
+use sheets::faults::Fault;
 use sheets::refusals::Refusal;
 use std::alloc::{AllocError, Global};
 use std::process::Abort;
 use std::test::Fail;
 
+// The end of a sheet, and the line, the number and the field of its verdict, as a report prints them.
 type Row = (&'static str, usize, u8, usize);
 
-// What is told of a sheet.
-fn verdict(heap: Global, sheet: &[u8]) -> Result<(usize, u8, usize), AllocError> {
-    match any_depot::read(heap, sheet) {
-        Ok(_) => Ok((0, 0, 0)),
-        Err(fault) => match fault.refusal {
-            Refusal::NoMemory => Err(AllocError),
-            told => {
-                let [field, _, _, _] = told.details();
-                Ok((fault.line, told.number(), field))
-            }
-        },
+// What is told of a sheet. That memory was wanting fails the test and is no verdict.
+fn verdict(heap: Global, sheet: &[u8]) -> Result<Verdict, AllocError> {
+    match any_depot::read(heap, sheet).err() {
+        Some(
+            Fault {
+                refusal: Refusal::NoMemory,
+                ..
+            },
+        ) => Err(AllocError),
+        told => Ok(Verdict::of(told)),
     }
 }
 
 // Each row is the end of a sheet that begins with the same lines.
-fn check_rows(rt: &impl Abort, heap: Global, top: &[u8], rows: &[Row]) -> Result<(), Fail> {
+fn check_rows(rt: &impl Abort, heap: Global, top: &str, rows: &[Row]) -> Result<(), Fail> {
     for row in rows {
         let (bottom, line, number, field) = *row;
-        let mut sheet = Vec::from_slice(heap, top)?;
-        sheet.extend_from_slice(bottom.as_bytes())?;
-        assert!(rt;
-            verdict(heap, &sheet)? == (line, number, field),
-            "{}",
-            bottom
-        );
+        let sheet = format!(in heap; "{top}{bottom}")?;
+        let told = Verdict {
+            line,
+            number,
+            field,
+        };
+        assert_eq!(rt; verdict(heap, sheet.as_bytes())?, told, "{bottom}");
     }
     Ok(())
 }
@@ -201,52 +203,35 @@ const EFFECTS: &[Row] = &[
 #[test]
 fn each_rule(rt: HostRuntime) -> Result<(), Fail> {
     let heap = rt.alloc();
-    check_rows(&rt, heap, b"", LAYOUTS)?;
-    check_rows(&rt, heap, b"K\tplain\n", PLAIN)?;
-    check_rows(&rt, heap, b"K\tsight\nZ\tz\nZ\ty\nP\ta\nP\tz\n", SIGHT)?;
-    check_rows(&rt, heap, b"K\tplain\nP\ta\nP\tb\nF\ta\n", FORMULAS)?;
+    check_rows(&rt, heap, "", LAYOUTS)?;
+    check_rows(&rt, heap, "K\tplain\n", PLAIN)?;
+    check_rows(&rt, heap, "K\tsight\nZ\tz\nZ\ty\nP\ta\nP\tz\n", SIGHT)?;
+    check_rows(&rt, heap, "K\tplain\nP\ta\nP\tb\nF\ta\n", FORMULAS)?;
     check_rows(
         &rt,
         heap,
-        b"K\tplain\nP\ta\nP\tb\nP\tc\nF\ta\nF\tb\nM\tm\t()\n",
+        "K\tplain\nP\ta\nP\tb\nP\tc\nF\ta\nF\tb\nM\tm\t()\n",
         EFFECTS,
     )
 }
 
-fn push_copies(sheet: &mut Vec<u8>, text: &str, count: usize) -> Result<(), AllocError> {
-    for _ in 0..count {
-        sheet.extend_from_slice(text.as_bytes())?;
-    }
-    Ok(())
-}
-
 // Lines with a number in each, from 0 on.
 fn push_numbered(
-    heap: Global,
-    sheet: &mut Vec<u8>,
+    sheet: &mut String,
     front: &str,
     count: usize,
     back: &str,
 ) -> Result<(), AllocError> {
     for n in 0..count {
-        let line = format!(in heap; "{front}{n}{back}\n")?;
-        sheet.extend_from_slice(line.as_bytes())?;
+        writeln!(sheet, "{front}{n}{back}")?;
     }
     Ok(())
 }
 
-// Moves with the same effect so many times each.
-fn push_moves(
-    heap: Global,
-    sheet: &mut Vec<u8>,
-    count: usize,
-    effect: &str,
-    effects: usize,
-) -> Result<(), AllocError> {
+// Moves with the same effects each.
+fn push_moves(sheet: &mut String, count: usize, effects: &str) -> Result<(), AllocError> {
     for n in 0..count {
-        let line = format!(in heap; "M\tm{n}\t()\n")?;
-        sheet.extend_from_slice(line.as_bytes())?;
-        push_copies(sheet, effect, effects)?;
+        write!(sheet, "M\tm{n}\t()\n{effects}")?;
     }
     Ok(())
 }
@@ -258,9 +243,9 @@ fn numbered(
     front: &str,
     count: usize,
     back: &str,
-) -> Result<Vec<u8>, AllocError> {
-    let mut sheet = Vec::from_slice(heap, top.as_bytes())?;
-    push_numbered(heap, &mut sheet, front, count, back)?;
+) -> Result<String, AllocError> {
+    let mut sheet = String::from_str(heap, top)?;
+    push_numbered(&mut sheet, front, count, back)?;
     Ok(sheet)
 }
 
@@ -304,8 +289,8 @@ fn full_tables(rt: HostRuntime) -> Result<(), Fail> {
         ],
     )?;
     let mut facts = numbered(heap, "K\tsight\nZ\tz\n", "P\tp", 64, "")?;
-    push_numbered(heap, &mut facts, "F\tp", 64, "")?;
-    push_numbered(heap, &mut facts, "F\tz.p", 64, "")?;
+    push_numbered(&mut facts, "F\tp", 64, "")?;
+    push_numbered(&mut facts, "F\tz.p", 64, "")?;
     check_rows(
         &rt,
         heap,
@@ -328,8 +313,9 @@ const SIXTEEN: &str = "\t(()&()&()&()&()&()&()&()&()&()&()&()&()&()&())";
 #[test]
 fn full_moves(rt: HostRuntime) -> Result<(), Fail> {
     let heap = rt.alloc();
-    let mut own = Vec::from_slice(heap, b"K\tplain\n")?;
-    push_moves(heap, &mut own, 1, NOTHING_DONE, 16)?;
+    let effects = NOTHING_DONE.repeat(heap, 16)?;
+    let mut own = String::from_str(heap, "K\tplain\n")?;
+    push_moves(&mut own, 1, &effects)?;
     check_rows(
         &rt,
         heap,
@@ -340,8 +326,8 @@ fn full_moves(rt: HostRuntime) -> Result<(), Fail> {
             ("E\t(\t-\t-\n", 19, 5, 2),
         ],
     )?;
-    let mut all = Vec::from_slice(heap, b"K\tplain\n")?;
-    push_moves(heap, &mut all, 16, NOTHING_DONE, 16)?;
+    let mut all = String::from_str(heap, "K\tplain\n")?;
+    push_moves(&mut all, 16, &effects)?;
     check_rows(
         &rt,
         heap,
@@ -397,7 +383,7 @@ fn full_moves(rt: HostRuntime) -> Result<(), Fail> {
         ],
     )?;
     let mut list = numbered(heap, "K\tplain\n", "P\tp", 9, "")?;
-    push_numbered(heap, &mut list, "F\tp", 9, "")?;
+    push_numbered(&mut list, "F\tp", 9, "")?;
     check_rows(
         &rt,
         heap,
@@ -430,12 +416,12 @@ const EIGHT_EACH: &str =
 
 // A sheet of 32,633 bytes: 184 for the kind, 8 matters and 8 facts, 13 moves with 16 effects of 149 bytes each, whose own
 // lines have 107 bytes, and one of 9 bytes with 9 effects. With a goal's line of 135 bytes it is as large as it may be.
-fn large_sheet(heap: Global) -> Result<Vec<u8>, AllocError> {
+fn large_sheet(heap: Global) -> Result<String, AllocError> {
     let mut sheet = numbered(heap, "K\tplain\n", "P\taaaaaaa", 8, "")?;
-    push_numbered(heap, &mut sheet, "F\taaaaaaa", 8, "")?;
-    push_moves(heap, &mut sheet, 13, EIGHT_EACH, 16)?;
-    push_copies(&mut sheet, "M\tm13\t()\n", 1)?;
-    push_copies(&mut sheet, EIGHT_EACH, 9)?;
+    push_numbered(&mut sheet, "F\taaaaaaa", 8, "")?;
+    push_moves(&mut sheet, 13, &EIGHT_EACH.repeat(heap, 16)?)?;
+    sheet.push_str("M\tm13\t()\n")?;
+    sheet.push_str(&EIGHT_EACH.repeat(heap, 9)?)?;
     Ok(sheet)
 }
 
@@ -444,17 +430,16 @@ fn large_sheet(heap: Global) -> Result<Vec<u8>, AllocError> {
 fn full_lines(rt: HostRuntime) -> Result<(), Fail> {
     let heap = rt.alloc();
     // a goal of 117 facts more makes a line of 240 bytes, and one of 241
-    let mut goal = Vec::from_slice(heap, b"K\tplain\nP\ta\nF\ta\nG\t(!a")?;
-    push_copies(&mut goal, "&a", 117)?;
+    let more = "&a".repeat(heap, 117)?;
+    let goal = format!(in heap; "K\tplain\nP\ta\nF\ta\nG\t(!a{more}")?;
     check_rows(&rt, heap, &goal, &[(")\n", 0, 0, 0), ("&)\n", 4, 2, 0)])?;
     let mut large = large_sheet(heap)?;
-    push_copies(&mut large, "G\t!!(()", 1)?;
-    push_copies(&mut large, "&()", 42)?;
-    assert!(rt; large.len() == 32766);
+    large.push_str("G\t!!(()")?;
+    large.push_str(&"&()".repeat(heap, 42)?)?;
+    assert_eq!(rt; large.len(), 32766);
     check_rows(&rt, heap, &large, &[(")\n", 0, 0, 0), (")\n\n", 0, 1, 0)])?;
     // the size comes before every line
-    let mut blank = Vec::new(heap);
-    push_copies(&mut blank, "\n", 32768)?;
+    let blank = "\n".repeat(heap, 32768)?;
     check_rows(&rt, heap, &blank, &[("", 1, 3, 0), ("\n", 0, 1, 0)])
 }
 
@@ -468,13 +453,13 @@ fn refused_depots(rt: HostRuntime) {
             .read(heap, b"K\tplain\nP\ta\nF\ta\nM\tm\ta\nG\ta\n")
             .is_ok()
     );
-    assert!(rt; depot.inventory().formulas == 2);
+    assert_eq!(rt; depot.inventory().formulas, 2);
     assert!(rt;
         depot
             .read(heap, b"K\tplain\nP\ta\nF\ta\nM\tm\ta\nG\tb\n")
             .is_err()
     );
-    assert!(rt; depot.inventory().facts == 0);
-    assert!(rt; depot.inventory().moves == 0);
-    assert!(rt; depot.inventory().formulas == 0);
+    assert_eq!(rt; depot.inventory().facts, 0);
+    assert_eq!(rt; depot.inventory().moves, 0);
+    assert_eq!(rt; depot.inventory().formulas, 0);
 }

@@ -9,3 +9,5 @@ mod fact_fields;
 mod layouts;
 #[cfg(test)]
 mod shown_lines;
+#[cfg(test)]
+mod verdicts;

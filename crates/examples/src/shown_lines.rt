@@ -1,36 +1,34 @@
 // The line that a refusal speaks of, by its sheet and line alone.
 use sheets::faults::{Fault, Sheet};
-use sheets::faulty_line::line;
+use sheets::faulty_line::Sheets;
 use sheets::refusals::Refusal;
 
-const DEPOT: &[u8] = b"one\n\nthree";
+const SHEETS: Sheets = Sheets {
+    depot: b"one\n\nthree",
+    plan: b"uno\ndos\n",
+};
 
-const PLAN: &[u8] = b"uno\ndos\n";
-
-fn shows(fault: &Fault, text: &[u8]) -> bool {
-    match line(DEPOT, PLAN, fault) {
-        Some(bytes) => bytes == text,
-        None => false,
-    }
-}
-
-fn at(sheet: Option<Sheet>, line: usize) -> Fault {
-    Fault {
-        sheet,
-        line,
-        refusal: Refusal::NoMemory,
-    }
-}
+// The sheet and the line of a fault, and the text that is shown.
+const ROWS: &[(Option<Sheet>, usize, Option<&[u8]>)] = &[
+    (Some(Sheet::Depot), 1, Some(b"one")),
+    (Some(Sheet::Depot), 2, Some(b"")),
+    (Some(Sheet::Depot), 3, Some(b"three")),
+    (Some(Sheet::Plan), 2, Some(b"dos")),
+    (Some(Sheet::Depot), 0, None),
+    (Some(Sheet::Depot), 4, None),
+    (Some(Sheet::Plan), 3, None),
+    (Some(Sheet::Depot), usize::MAX, None),
+    (None, 1, None),
+];
 
 #[test]
 fn by_sheet_and_line(rt: HostRuntime) {
-    assert!(rt; shows(&at(Some(Sheet::Depot), 1), b"one"));
-    assert!(rt; shows(&at(Some(Sheet::Depot), 2), b""));
-    assert!(rt; shows(&at(Some(Sheet::Depot), 3), b"three"));
-    assert!(rt; shows(&at(Some(Sheet::Plan), 2), b"dos"));
-    assert!(rt; line(DEPOT, PLAN, &at(Some(Sheet::Depot), 0)).is_none());
-    assert!(rt; line(DEPOT, PLAN, &at(Some(Sheet::Depot), 4)).is_none());
-    assert!(rt; line(DEPOT, PLAN, &at(Some(Sheet::Plan), 3)).is_none());
-    assert!(rt; line(DEPOT, PLAN, &at(Some(Sheet::Depot), usize::MAX)).is_none());
-    assert!(rt; line(DEPOT, PLAN, &at(None, 1)).is_none());
+    for (sheet, line, text) in ROWS {
+        let fault = Fault {
+            sheet: *sheet,
+            line: *line,
+            refusal: Refusal::NoMemory,
+        };
+        assert_eq!(rt; SHEETS.line(&fault), *text, "line {line}");
+    }
 }

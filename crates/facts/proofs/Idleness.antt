@@ -1,6 +1,11 @@
--- A scan of watchers for one that adds nothing to the one before it. Assumes nothing.
-use Rattle.std.proofs.Common.{◌≡◌, ℕ, ◌+◌, ◌-◌, ◌<◌, ◌≤◌, true, false, ◌||◌, ◌⊎◌, List, [], ◌∷◌, ◌++◌, length, get_or, drop, Decides, sym, refl, ap, ◌∙◌, inl, inr, arith, length-append, length-drop}
-use Rattle.std.proofs.lemmas.List.{drop_more}
+-- A look for a watcher that adds nothing to the one before it. Assumes nothing.
+use Rattle.std.proofs.Common.{◌≡◌, ◌<◌, ◌≤◌, Bool, ◌||◌, ◌⊎◌, List, [], ◌∷◌, ◌++◌, length, get_or, take, drop, Decides, sym, refl, ap, subst, ◌∙◌, inl, inr, arith, length-append}
+use Rattle.std.specs.List.{list_any}
+use Rattle.std.specs.Slice.Iter.{windows_rest, windows_size}
+use Rattle.std.specs.Slice.ArrayWindows.{array_windows_steps}
+use Rattle.std.specs.declared.slice.ArrayWindows.{ArrayWindows}
+use Rattle.std.proofs.lemmas.Iterator.{YieldsList}
+use Rattle.std.proofs.lemmas.Iterator.Splits.{YieldsList-from_shown_while}
 use Rattle.std.proofs.lemmas.Bool.{false≢true}
 use Rattle.std.proofs.lemmas.Bool.Decides.{Decides-like, Decides-or}
 use Rattle.facts.specs.declared.sighted.Watcher.{Watcher}
@@ -8,40 +13,45 @@ use Rattle.facts.specs.declared.sighted.Watcher.TheVariants.{All, Zone}
 use Rattle.facts.specs.Watchers.{same_watcher, is_every, idle, Idle}
 use Rattle.facts.specs.Carrying.{same_watcher-decides}
 
--- the watchers from the one before i on are idle exactly if all are
-abbrev pub Watched : List Watcher → ℕ → Type 0
-Watched ws i = idle (drop (i - 1) ws) ≡ idle ws
+-- each watcher and the one after it
+abbrev pub pairs : List Watcher → List (List Watcher)
+pairs [] = []
+pairs (v ∷ []) = []
+pairs (v ∷ w ∷ ws) = (v ∷ w ∷ []) ∷ pairs (w ∷ ws)
 
-module _ (ws : List Watcher) (i : ℕ) (d : Watcher) (sofar : Watched ws i) (start : 1 ≤ i) where
-  two : i < length ws → drop (i - 1) ws ≡ get_or ws (i - 1) d ∷ get_or ws i d ∷ drop (i + 1) ws
-  two within =
-      let before : i - 1 < length ws = omega arith in
-      let on : i - 1 + 1 ≡ i = omega arith in
-      drop_more ws (i - 1) d before ∙ ap (λ l. get_or ws (i - 1) d ∷ l) (ap (λ k. drop k ws) on ∙ drop_more ws i d within)
+-- the second of two adds nothing
+abbrev pub adds_none : List Watcher → Bool
+adds_none two = is_every (get_or two 1 All) || same_watcher (get_or two 0 All) (get_or two 1 All)
 
-  pub idle-here : i < length ws → true ≡ (is_every (get_or ws i d) || same_watcher (get_or ws (i - 1) d) (get_or ws i d)) → true ≡ idle ws
-  idle-here within found =
-      ap (λ t. t || idle (get_or ws i d ∷ drop (i + 1) ws)) found ∙ sym (ap idle (two within)) ∙ sofar
+pub any_pair : (ws : List Watcher) → list_any adds_none (pairs ws) ≡ idle ws
+any_pair [] = refl
+any_pair (v ∷ []) = refl
+any_pair (v ∷ w ∷ ws) = ap (λ t. (is_every w || same_watcher v w) || t) (any_pair (w ∷ ws))
 
-  pub idle-more : i < length ws → false ≡ (is_every (get_or ws i d) || same_watcher (get_or ws (i - 1) d) (get_or ws i d)) → Watched ws (i + 1)
-  idle-more within none =
-      let on : i + 1 - 1 ≡ i = omega arith in
-      ap (λ k. idle (drop k ws)) on ∙ ap idle (drop_more ws i d within) ∙ ap (λ t. t || idle (get_or ws i d ∷ drop (i + 1) ws)) none ∙ sym (ap idle (two within)) ∙ sofar
+no_pair : (ws : List Watcher) → length ws < 2 → length (pairs ws) ≡ 0
+no_pair [] short = refl
+no_pair (v ∷ []) short = refl
+no_pair (v ∷ w ∷ ws) short = absurd (omega arith)
 
-  pub idle-all : length ws ≤ i → false ≡ idle ws
-  idle-all end = sym (short (drop (i - 1) ws) (omega (arith, length-drop (i - 1) ws))) ∙ sofar
-    where
-      short : (l : List Watcher) → length l ≤ 1 → idle l ≡ false
-      short [] few = refl
-      short (v ∷ []) few = refl
-      short (v ∷ w ∷ l) few = absurd (omega arith)
+first_pair : (ws : List Watcher) → 2 ≤ length ws → pairs ws ≡ take 2 ws ∷ pairs (drop 1 ws)
+first_pair [] long = absurd (omega arith)
+first_pair (v ∷ []) long = absurd (omega arith)
+first_pair (v ∷ w ∷ ws) long = refl
+
+-- the windows of two are the pairs
+pub windows_of_two : {s : ArrayWindows Watcher 2} (ws : List Watcher) → windows_rest s.parts ≡ ws → windows_size s.parts ≡ 2 → YieldsList array_windows_steps (λ p. p.now) s (pairs ws)
+windows_of_two {s} ws whole two =
+    subst (YieldsList array_windows_steps (λ p. p.now) s) (ap pairs whole) (YieldsList-from_shown_while array_windows_steps (λ p. p.now) (λ t. pairs (windows_rest t.parts)) (λ t. windows_size t.parts ≡ 2)
+    (λ t u h k. no_pair (windows_rest t.parts) (omega (arith, h, k.1.0)))
+    (λ t x u h k. (k.0 ∙ h, first_pair (windows_rest t.parts) (omega (arith, h, k.1.0)) ∙ ap (λ n. take n (windows_rest t.parts) ∷ pairs (drop 1 (windows_rest t.parts))) (sym h) ∙ ap (λ l. l ∷ pairs (drop 1 (windows_rest t.parts))) (sym k.1.1) ∙ ap (λ l. x.now ∷ pairs l) (sym k.1.2)))
+    s two)
 
 too_short : (ws front back : List Watcher) (v w : Watcher) → ws ≡ front ++ v ∷ w ∷ back → length ws < 2 → ⊥
 too_short ws front back v w e few = omega (arith, ap length e, length-append front (v ∷ w ∷ back))
 
 is_every-decides : (w : Watcher) → Decides (is_every w) (w ≡ All)
 is_every-decides All = (λ _. refl, λ _. refl)
-is_every-decides (Zone z) = (λ e. absurd (false≢true e), λ e. let no : ◌≡◌ {A = ℕ} 0 1 = cc in absurd (omega arith))
+is_every-decides (Zone z) = (λ e. absurd (false≢true e), λ e. cc)
 
 -- the test decides the same in words
 pub idle-decides : (ws : List Watcher) → Decides (idle ws) (Idle ws)

@@ -1,5 +1,7 @@
+pub mod Gathered
 pub mod Idleness
-pub mod Marks
+pub mod Marked
+pub mod Numbered
 pub mod Partwise
 pub mod Readings
-pub mod Spelling
+pub mod Sameness

@@ -1,73 +1,64 @@
--- A walk over the parts of a text, one cut after the other. Assumes nothing.
-use Rattle.std.proofs.Common.{◌≡◌, ℕ, suc, ◌+◌, ◌<◌, ◌≤◌, true, false, ◌&&◌, List, [], ◌∷◌, ◌++◌, length, drop, set, IfSome, Some, None, Option, sym, refl, ap, ◌∙◌, append_assoc, arith}
-use Rattle.std.specs.Option.{option_map}
-use Rattle.std.proofs.lemmas.List.{append-nil, drop_more, set_at, length_push}
-use Rattle.facts.specs.declared.sighted.Watcher.{Watcher}
-use Rattle.facts.specs.Parts.{is_watcher, fitting, last_of, watcher_of, followed, watchers_in}
-use Rattle.facts.specs.Sight.{put_into, Placed}
+-- The parts of a text: the watchers', and the matter's. Assumes nothing.
+use Rattle.std.proofs.Common.{◌≡◌, ℕ, ◌+◌, ◌-◌, ◌<◌, Bool, true, false, ◌&&◌, cond, eqb, List, [], ◌∷◌, ◌++◌, length, get_or, Option, Some, None, sym, refl, ap, subst, ◌∙◌, arith}
+use Rattle.std.specs.Bool.{MatchBool}
+use Rattle.std.specs.List.{All, list_all, slice_split, onto_first, IsAfterLastMatch}
+use Rattle.std.proofs.lemmas.List.Splits.{slice_split_none, length-slice_split}
+use Rattle.std.proofs.lemmas.Grind.{common_steps}
+use Rattle.std.proofs.Math.Bool.{and-true, and_assoc}
+use Rattle.std.proofs.lemmas.Bool.{false≢true}
+use Rattle.std.specs.Option.{option_map, unwrap_or, MatchOption}
+use denote.Ref.{Bor}
+use Rattle.sheets.specs.Pieces.{pieces, following}
+use Rattle.facts.specs.Parts.{is_watcher, fitting, last_of, watcher_of, followed, watchers_in, watchers_named}
 
--- how much is left to cut
-abbrev pub uncut : Option (List ℕ) → ℕ
-uncut None = 0
-uncut (Some rest) = suc (length rest)
+-- what stands before the last mark, and what follows it
+module _ {X : Type 0} (p : X → Bool) where
+  split_last : (front : List X) (y : X) (back : List X) → p y ≡ true → slice_split p back ≡ back ∷ [] → slice_split p (front ++ y ∷ back) ≡ slice_split p front ++ back ∷ []
+  split_last [] y back mark alone = rw (mark, alone)
+  split_last (x ∷ front) y back mark alone = by_first (p x) (slice_split p front) (omega (arith, length-slice_split p front)) (split_last front y back mark alone)
+    where
+      by_first : (b : Bool) (parts : List (List X)) → 0 < length parts → slice_split p (front ++ y ∷ back) ≡ parts ++ back ∷ [] → cond b ([] ∷ slice_split p (front ++ y ∷ back)) (onto_first x (slice_split p (front ++ y ∷ back))) ≡ cond b ([] ∷ parts) (onto_first x parts) ++ back ∷ []
+      by_first true parts some e = ap (λ l. [] ∷ l) e
+      by_first false [] some e = absurd (omega arith)
+      by_first false (part ∷ parts) some e = ap (onto_first x) e
 
-pub uncut-less : {X : Type 0} (f : X → List ℕ) (rest next : Option X) (after : X) → rest ≡ Some after → IfSome next (λ x. length (f x) < length (f after)) → uncut (option_map f next) < uncut (option_map f rest)
-uncut-less f rest None after is less = rw is (omega arith)
-uncut-less f rest (Some x) after is less = rw is (omega arith)
+  split_at_last : (xs rest last : List X) (done : Bool) → MatchBool done (xs ≡ last) ((y : X) × (xs ≡ rest ++ (y ∷ last))) → IsAfterLastMatch p xs (length xs - length last) → slice_split p xs ≡ cond done [] (slice_split p rest) ++ last ∷ []
+  split_at_last xs rest last true whole none = ap (slice_split p) whole ∙ slice_split_none p last (λ k d l. subst (λ ys. p (get_or ys k d) ≡ false) whole (none.0 k d (omega (arith, ap length whole)) (omega (arith, ap length whole))))
+  split_at_last xs rest last false cut none =
+      let is = cut.1 in
+      let mark : p cut.0 ≡ true = let a = none.1 (grind (arith, common_steps)) cut.0 in grind (arith, common_steps) in
+      let alone : All (λ z. p z ≡ false) last = λ k d l. let a = none.0 (length rest + 1 + k) d (grind (arith, common_steps)) (grind (arith, common_steps)) in grind (arith, common_steps) in
+      ap (slice_split p) is ∙ split_last rest cut.0 last mark (slice_split_none p last alone)
 
--- the part in hand, the next one and those after it
-module _ (part next : List ℕ) (later after : List (List ℕ)) (cut : after ≡ next ∷ later) where
-  pub last_more : last_of (part ∷ after) ≡ last_of (next ∷ later)
-  last_more = ap (λ ps. last_of (part ∷ ps)) cut
+-- two calls of `rsplitn(2, ..)` give the last part, and what stands before it
+pub halves : (mark : ℕ) (xs rest : List ℕ) (done : Bool) (last before : Option (Bor (List ℕ))) (d m : Bor (List ℕ)) → m ≡ unwrap_or last d → MatchOption last ⊥ (λ x. MatchBool done (xs ≡ x.now) ((y : ℕ) × (xs ≡ rest ++ (y ∷ x.now))) × IsAfterLastMatch (λ b. eqb b mark) xs (length xs - length x.now)) → MatchOption before (done ≡ true) (λ x. (done ≡ false) × (rest ≡ x.now)) → pieces mark xs ≡ following mark (option_map (λ x. x.now) before) ++ m.now ∷ []
+halves mark xs rest done None before d m is none two = absurd none
+halves mark xs rest true (Some x) None d m is one two = split_at_last (λ b. eqb b mark) xs rest x.now true one.0 one.1 ∙ ap (λ (v : Bor (List ℕ)). v.now ∷ []) (sym is)
+halves mark xs rest false (Some x) None d m is one two = absurd (false≢true two)
+halves mark xs rest true (Some x) (Some y) d m is one two = absurd (false≢true (sym two.0))
+halves mark xs rest false (Some x) (Some y) d m is one two = split_at_last (λ b. eqb b mark) xs rest x.now false one.0 one.1 ∙ ap (λ l. pieces mark l ++ x.now ∷ []) two.1 ∙ ap (λ (v : Bor (List ℕ)). pieces mark y.now ++ v.now ∷ []) (sym is)
 
-  pub fitting-more : is_watcher part ≡ true → fitting (part ∷ after) ≡ fitting (next ∷ later)
-  fitting-more good = ap (λ ps. fitting (part ∷ ps)) cut ∙ ap (λ t. t && fitting (next ∷ later)) good
+pub weaker : {A P P' : Type 0} {Q Q' : A → Type 0} (o : Option A) → MatchOption o P Q → (P → P') → ((x : A) → Q x → Q' x) → MatchOption o P' Q'
+weaker None h none some = none h
+weaker (Some x) h none some = some x h
 
-pub fitting-fails : (part : List ℕ) (after : List (List ℕ)) → 0 < length after → is_watcher part ≡ false → fitting (part ∷ after) ≡ false
-fitting-fails part [] some bad = absurd (omega arith)
-fitting-fails part (next ∷ later) some bad = ap (λ t. t && fitting (next ∷ later)) bad
+-- what is asked of all parts but the last, and of the last
+module _ (last : List ℕ) where
+  pub fitting_last : (front : List (List ℕ)) → fitting (front ++ last ∷ []) ≡ (list_all is_watcher front && fitting (last ∷ []))
+  fitting_last [] = refl
+  fitting_last (p ∷ []) = ap (λ t. t && fitting (last ∷ [])) (sym (and-true (is_watcher p)))
+  fitting_last (p ∷ q ∷ front) = ap (λ t. is_watcher p && t) (fitting_last (q ∷ front)) ∙ sym (and_assoc (is_watcher p) (list_all is_watcher (q ∷ front)) (fitting (last ∷ [])))
 
--- watchers read so far, before those that are still to be read
-abbrev after_these : List Watcher → Option (List Watcher) → Option (List Watcher)
-after_these ws o = option_map (λ l. ws ++ l) o
+  pub last_last : (front : List (List ℕ)) → last_of (front ++ last ∷ []) ≡ last
+  last_last [] = refl
+  last_last (p ∷ []) = refl
+  last_last (p ∷ q ∷ front) = last_last (q ∷ front)
 
-after_none : (o : Option (List Watcher)) → after_these [] o ≡ o
-after_none None = refl
-after_none (Some l) = refl
+  pub watchers_last : (zones front : List (List ℕ)) → watchers_in zones (front ++ last ∷ []) ≡ watchers_named zones front
+  watchers_last zones [] = refl
+  watchers_last zones (p ∷ []) = refl
+  watchers_last zones (p ∷ q ∷ front) = ap (followed (watcher_of zones p)) (watchers_last zones (q ∷ front))
 
-after_push : (ws : List Watcher) (w : Watcher) (o : Option (List Watcher)) → after_these ws (followed (Some w) o) ≡ after_these (ws ++ w ∷ []) o
-after_push ws w None = refl
-after_push ws w (Some l) = ap Some (sym (append_assoc ws (w ∷ []) l))
-
--- one more watcher in its place
-put-push : (row ws : List Watcher) (w : Watcher) → length ws < length row → set (put_into row ws) (length ws) w ≡ put_into row (ws ++ w ∷ [])
-put-push row ws w within =
-    ap (λ l. set (ws ++ l) (length ws) w) (drop_more row (length ws) w within) ∙ set_at ws _ (drop (length ws + 1) row) w (length ws) refl ∙ sym (append_assoc ws (w ∷ []) (drop (length ws + 1) row)) ∙ ap (λ n. (ws ++ w ∷ []) ++ drop n row) (sym (length_push ws w))
-
-module _ (zones parts : List (List ℕ)) (fresh : List Watcher) where
-  -- n watchers of the parts stand in the row, and those of the parts left are still to come
-  abbrev pub Put : List Watcher → ℕ → List (List ℕ) → Type 0
-  Put row n left = (n + length left ≤ 6) × ((ws : List Watcher) × (length ws ≡ n) × (row ≡ put_into fresh ws) × (watchers_in zones parts ≡ after_these ws (watchers_in zones left)))
-
-  pub put-none : (left : List (List ℕ)) → length parts ≤ 6 → parts ≡ left → Put fresh 0 left
-  put-none left few cut = (omega (arith, ap length cut), ([], refl, refl, ap (watchers_in zones) cut ∙ sym (after_none _)))
-
-  module _ (row : List Watcher) (n : ℕ) where
-    pub put-more : (part next : List ℕ) (later after : List (List ℕ)) (w : Watcher) → length fresh ≡ 5 → after ≡ next ∷ later → Some w ≡ watcher_of zones part → Put row n (part ∷ after) → Put (set row n w) (n + 1) (next ∷ later)
-    put-more part next later after w five cut named sofar =
-        let few = sofar.0 in
-        let ws = sofar.1.0 in
-        let count = sofar.1.1 in
-        let within : length ws < length fresh = omega (arith, ap length cut) in (
-          omega (arith, ap length cut),
-          (ws ++ w ∷ [], length_push ws w ∙ ap (λ k. k + 1) count, ap (λ r. set r n w) sofar.1.2 ∙ ap (λ k. set (put_into fresh ws) k w) (sym count) ∙ put-push fresh ws w within, sofar.1.3 ∙ ap (λ ps. after_these ws (watchers_in zones (part ∷ ps))) cut ∙ ap (λ o. after_these ws (followed o (watchers_in zones (next ∷ later)))) (sym named) ∙ after_push ws w (watchers_in zones (next ∷ later))),
-        )
-
-    pub put-fails : (part : List ℕ) (after : List (List ℕ)) → 0 < length after → None ≡ watcher_of zones part → Put row n (part ∷ after) → watchers_in zones parts ≡ None
-    put-fails part [] some unlisted sofar = absurd (omega arith)
-    put-fails part (next ∷ later) some unlisted sofar = sofar.1.3 ∙ ap (λ o. after_these sofar.1.0 (followed o (watchers_in zones (next ∷ later)))) (sym unlisted)
-
-    pub put_all : (part : List ℕ) → Put row n (part ∷ []) → Placed (watchers_in zones parts) fresh row n
-    put_all part sofar =
-        let few = sofar.0 in
-        (omega arith, (sofar.1.0, sofar.1.3 ∙ ap Some (append-nil sofar.1.0), sofar.1.1, sofar.1.2))
+-- the form of a text, by what is asked of its halves
+pub fits : (parts front : List (List ℕ)) (last : List ℕ) (watched : Bool) → parts ≡ front ++ last ∷ [] → watched ≡ list_all is_watcher front → (watched && fitting (last ∷ [])) ≡ fitting parts
+fits parts front last watched cut is = ap (λ t. t && fitting (last ∷ [])) is ∙ sym (fitting_last last front) ∙ sym (ap fitting cut)

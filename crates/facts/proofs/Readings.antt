@@ -1,23 +1,47 @@
--- The fact that is read. Assumes nothing.
-use Rattle.std.proofs.Common.{◌≡◌, ℕ, ◌≤◌, min, true, List, length, Some, Ok, Result, sym, ap, ◌∙◌, subst, arith}
-use native.Mathlib.Bridge.{le_prop}
-use Rattle.std.proofs.lemmas.Bool.{cond-true}
+-- The fact that is read, by the halves of its text. Assumes nothing.
+use Rattle.std.proofs.Common.{◌≡◌, ℕ, ◌≤◌, true, List, [], ◌∷◌, ◌++◌, length, Option, Some, None, Ok, Err, Result, sym, refl, ap, ◌∙◌, arith, length-append}
+use Rattle.std.specs.Option.{option_map}
+use Rattle.std.proofs.lemmas.Bool.{cond-true, and_parts, leb-true}
 use Rattle.sheets.specs.Listed.{place_of}
 use Rattle.facts.specs.declared.names.NoFact.{NoFact}
+use Rattle.facts.specs.declared.names.NoFact.TheVariants.{NotListed}
+use Rattle.facts.specs.declared.short_list.ShortList.{ShortList}
 use Rattle.facts.specs.declared.sighted.SightFact.{SightFact}
 use Rattle.facts.specs.declared.sighted.Watcher.{Watcher}
-use Rattle.facts.specs.Parts.{parts_of, formed, watchers_in, last_of}
-use Rattle.facts.specs.Sight.{fresh_row, put_into, fact_of, sight_fact, sight_reading}
+use Rattle.facts.specs.declared.sighted.Watcher.TheVariants.{All}
+use Rattle.facts.specs.Parts.{parts_of, fitting, formed, watchers_named, watchers_in, last_of}
+use Rattle.facts.specs.ShortLists.{short_list}
+use Rattle.facts.specs.Sight.{sight_fact, sight_reading}
+use Rattle.facts.proofs.Partwise.{last_last, watchers_last}
 
-kept : List Watcher → ℕ → (n : ℕ) → n ≤ 5 → SightFact
-kept row m n few = record { watchers = row; count = n; matter = m; few = few }
+module _ (zones matters : List (List ℕ)) (text : List ℕ) (front : List (List ℕ)) (last : List ℕ) (form : formed (parts_of text) ≡ true) (cut : parts_of text ≡ front ++ last ∷ []) where
+  -- at most five watchers
+  pub few : length front ≤ 5
+  few =
+      let six = leb-true (length (parts_of text)) 6 (and_parts _ (fitting (parts_of text)) form).0 in
+      omega (arith, ap length cut, length-append front (last ∷ []), six)
 
--- that there are few watchers has one proof
-kept_same : (row : List Watcher) (m n k : ℕ) → n ≡ k → (few : n ≤ 5) (also : k ≤ 5) → kept row m n few ≡ kept row m k also
-kept_same row m n k e few = subst (λ (j : ℕ). (also : j ≤ 5) → kept row m n few ≡ kept row m j also) e (λ also. ap (kept row m n) (le_prop few also))
+  reads : sight_fact (watchers_named zones front) (place_of last matters) ≡ sight_reading zones matters text
+  reads = sym (cond-true _ _ _ form ∙ ap (λ ps. sight_fact (watchers_in zones ps) (place_of (last_of ps) matters)) cut ∙ ap (λ o. sight_fact o (place_of (last_of (front ++ last ∷ [])) matters)) (watchers_last last zones front) ∙ ap (λ t. sight_fact (watchers_named zones front) (place_of t matters)) (last_last last front))
 
-pub reads : (zones matters : List (List ℕ)) (text : List ℕ) (ws row : List Watcher) (n m : ℕ) (few : n ≤ 5) → formed (parts_of text) ≡ true → watchers_in zones (parts_of text) ≡ Some ws → length ws ≡ n → row ≡ put_into fresh_row ws → Some m ≡ place_of (last_of (parts_of text)) matters → ◌≡◌ {A = Result SightFact NoFact} (Ok (record { watchers = row; count = n; matter = m; few = few })) (sight_reading zones matters text)
-unfolding kept
-reads zones matters text ws row n m few form named count put listed =
-    let five : n ≡ min (length ws) 5 = omega arith in
-    ap (λ r. Ok (kept r m n few)) put ∙ ap Ok (kept_same (put_into fresh_row ws) m n (min (length ws) 5) five few (fact_of ws m).few) ∙ sym (cond-true _ _ _ form ∙ ap (λ o. sight_fact o (place_of (last_of (parts_of text)) matters)) named ∙ ap (sight_fact (Some ws)) (sym listed))
+  pub unlisted_watchers : None ≡ option_map (short_list {N = 5} All) (watchers_named zones front) → Err NotListed ≡ sight_reading zones matters text
+  unlisted_watchers none = by_watchers (watchers_named zones front) none ∙ reads
+    where
+      by_watchers : (o : Option (List Watcher)) → None ≡ option_map (short_list {N = 5} All) o → Err NotListed ≡ sight_fact o (place_of last matters)
+      by_watchers None none = refl
+      by_watchers (Some ws) none = cc
+
+  module _ (s : ShortList Watcher 5) (listed : Some s ≡ option_map (short_list All) (watchers_named zones front)) where
+    pub unlisted_matter : None ≡ place_of last matters → Err NotListed ≡ sight_reading zones matters text
+    unlisted_matter none = by_watchers (watchers_named zones front) listed ∙ ap (sight_fact (watchers_named zones front)) none ∙ reads
+      where
+        by_watchers : (o : Option (List Watcher)) → Some s ≡ option_map (short_list All) o → Err NotListed ≡ sight_fact o None
+        by_watchers None listed = refl
+        by_watchers (Some ws) listed = refl
+
+    pub both_listed : (m : ℕ) → Some m ≡ place_of last matters → ◌≡◌ {A = Result SightFact NoFact} (Ok (record { watchers = s; matter = m })) (sight_reading zones matters text)
+    both_listed m here = by_watchers (watchers_named zones front) listed ∙ ap (sight_fact (watchers_named zones front)) here ∙ reads
+      where
+        by_watchers : (o : Option (List Watcher)) → Some s ≡ option_map (short_list All) o → ◌≡◌ {A = Result SightFact NoFact} (Ok (record { watchers = s; matter = m })) (sight_fact o (Some m))
+        by_watchers None listed = cc
+        by_watchers (Some ws) listed = let is : s ≡ short_list All ws = cc in ap (λ (t : ShortList Watcher 5). Ok (record { watchers = t; matter = m })) is

@@ -13,10 +13,10 @@ use Rattle.facts.specs.Sight.{watchers_of, sight_carries, Carries}
 use Rattle.facts.specs.Watchers.{same_watcher, same_watchers, above, carries_jointly, CarriesJointly, carries_by, CarriesBy}
 
 apart : {v w : Watcher} → (n : ℕ) → v ≡ All → w ≡ Zone n → v ≢ w
-apart n p q e = let z : ◌≡◌ {A = ℕ} 0 1 = cc in omega arith
+apart n p q e = cc
 
 empty : {w : Watcher} {ws : List Watcher} → [] ≢ w ∷ ws
-empty e = let z : ◌≡◌ {A = ℕ} 0 1 = cc in omega arith
+empty e = cc
 
 pub same_watcher-decides : (v w : Watcher) → Decides (same_watcher v w) (v ≡ w)
 same_watcher-decides All All = (λ _. refl, λ _. refl)
@@ -24,7 +24,7 @@ same_watcher-decides All (Zone b) = (λ e. absurd (false≢true e), λ e. absurd
 same_watcher-decides (Zone a) All = (λ e. absurd (false≢true e), λ e. absurd (apart a refl refl (sym e)))
 same_watcher-decides (Zone a) (Zone b) = Decides-like (a == b) (λ e. ap Zone e) (λ e. cc) (Decides-eqb a b)
 
--- what the trait asks of the test
+-- being the same is symmetric and transitive
 pub same_watcher_laws : IsPartialEquivalence same_watcher
 same_watcher_laws = record {
   symm = λ v w. same_from_decides (same_watcher v w) (same_watcher w v) (turned v w) (same_watcher-decides w v);
@@ -35,11 +35,7 @@ same_watcher_laws = record {
     turned v w = let d = same_watcher-decides v w in (λ e. sym (d.0 e), λ e. d.1 (sym e))
 
 pub same_watchers-decides : (a b : List Watcher) → Decides (same_watchers a b) (a ≡ b)
-same_watchers-decides [] [] = (λ _. refl, λ _. refl)
-same_watchers-decides [] (w ∷ b) = (λ e. absurd (false≢true e), λ e. absurd (empty e))
-same_watchers-decides (v ∷ a) [] = (λ e. absurd (false≢true e), λ e. absurd (empty (sym e)))
-same_watchers-decides (v ∷ a) (w ∷ b) =
-    Decides-like _ (λ p. let e = p.0 in let f = p.1 in cc) (λ e. (cc, cc)) (Decides-and _ _ (same_watcher-decides v w) (same_watchers-decides a b))
+same_watchers-decides a b = slice_eq-Decides same_watcher-decides a b (same_watchers a b) refl
 
 -- one or more watchers and then r
 abbrev Above : List Watcher → List Watcher → Type 0
@@ -102,10 +98,10 @@ sight_carries-trans a b c p q =
     let y = (sight_carries-decides b c).0 q in
     (sight_carries-decides a c).1 (x.0 ∙ y.0, carries_by-trans (watchers_of a) (watchers_of b) (watchers_of c) x.1 y.1)
 
--- what the code's tests of two slices say
+-- what the code's tests of the end of a slice say
 module _ (s p : List Watcher) where
   pub watchers_same : (r : Bool) → r ≡ pointwise same_watcher s p → r ≡ same_watchers s p
-  watchers_same r told = same_from_decides r (same_watchers s p) (slice_eq-Decides same_watcher-decides s p r told) (same_watchers-decides s p)
+  watchers_same r told = told
 
   pub ends_above : (r : Bool) → length p < length s → r ≡ pointwise same_watcher p (drop (length s - length p) s) → r ≡ above p s
   ends_above r longer told =

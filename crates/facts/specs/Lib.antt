@@ -1,9 +1,12 @@
+pub mod Carrying
 pub mod Listed
 pub mod Meaning
+pub mod Numbering
 pub mod Parts
 pub mod Plain
+pub mod ShortLists
 pub mod Sight
+pub mod Spelling
 pub mod Texts
 pub mod Watchers
 pub mod Worked
-pub mod Carrying

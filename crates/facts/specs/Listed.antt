@@ -18,14 +18,16 @@ numbered same (Ok f) facts = or_unlisted (first_from (same f) 1 facts)
 abbrev pub number_of_text : {F : Type 0} → (F → F → Bool) → (List ℕ → Result F NoFact) → List F → List ℕ → Result ℕ NoFact
 number_of_text same read facts text = numbered same (read text) facts
 
--- A row with the answer of a test at the place of each fact, as far as both reach; what is left of the row stays.
-abbrev pub marked : {F : Type 0} → (F → Bool) → List F → List Bool → List Bool
-marked test [] row = row
-marked test (f ∷ fs) [] = []
-marked test (f ∷ fs) (b ∷ row) = test f ∷ marked test fs row
+-- A row in which the mark at the place of each fact is settled by the mark there and the fact, as far as both reach; what is left of the row stays.
+abbrev pub remarked : {F : Type 0} → (Bool → F → Bool) → List F → List Bool → List Bool
+remarked settle [] row = row
+remarked settle (f ∷ fs) [] = []
+remarked settle (f ∷ fs) (b ∷ row) = settle b f ∷ remarked settle fs row
 
--- A row with one more mark at the place of each fact that passes a test, as far as both reach; other marks stay.
+-- A row with the answer of a test at the place of each fact.
+abbrev pub marked : {F : Type 0} → (F → Bool) → List F → List Bool → List Bool
+marked test = remarked (λ b f. test f)
+
+-- A row with one more mark at the place of each fact that passes a test; other marks stay.
 abbrev pub also_marked : {F : Type 0} → (F → Bool) → List F → List Bool → List Bool
-also_marked test [] row = row
-also_marked test (f ∷ fs) [] = []
-also_marked test (f ∷ fs) (b ∷ row) = (b || test f) ∷ also_marked test fs row
+also_marked test = remarked (λ b f. b || test f)

@@ -40,6 +40,11 @@ watchers_in zones [] = Some []
 watchers_in zones (p ∷ []) = Some []
 watchers_in zones (p ∷ q ∷ ps) = followed (watcher_of zones p) (watchers_in zones (q ∷ ps))
 
+-- The watchers that some parts name, if every zone is listed.
+abbrev pub watchers_named : List (List ℕ) → List (List ℕ) → Option (List Watcher)
+watchers_named zones [] = Some []
+watchers_named zones (p ∷ ps) = followed (watcher_of zones p) (watchers_named zones ps)
+
 -- The part of the matter.
 abbrev pub last_of : List (List ℕ) → List ℕ
 last_of [] = []

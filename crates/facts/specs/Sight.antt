@@ -1,35 +1,28 @@
 -- The sight kind: a fact is up to five watchers and then a matter. Assumes nothing.
-use Rattle.std.specs.Prelude.{◌≡◌, ℕ, ◌≤◌, min, Bool, cond, ◌&&◌, List, [], ◌∷◌, ◌++◌, map, length, take, drop, replicate, Some, None, Ok, Err, Option, Result, ◌==◌, slice_index_or}
-use Rattle.std.proofs.Math.Nat.{min-le_right}
+use Rattle.std.specs.Prelude.{◌≡◌, ℕ, Bool, cond, ◌&&◌, List, [], ◌∷◌, ◌++◌, map, Some, None, Ok, Err, Option, Result, ◌==◌, slice_index_or}
 use Rattle.std.specs.List.{join_with_byte}
 use Rattle.sheets.specs.Listed.{place_of}
 use Rattle.facts.specs.declared.names.NoFact.{NoFact}
 use Rattle.facts.specs.declared.names.NoFact.TheVariants.{NotItsForm, NotListed}
+use Rattle.facts.specs.declared.short_list.ShortList.{ShortList}
 use Rattle.facts.specs.declared.sighted.SightFact.{SightFact}
 use Rattle.facts.specs.declared.sighted.Watcher.{Watcher}
 use Rattle.facts.specs.declared.sighted.Watcher.TheVariants.{All}
 use Rattle.facts.specs.Parts.{parts_of, formed, watchers_in, last_of, part_for}
+use Rattle.facts.specs.ShortLists.{entries_of, short_list}
 use Rattle.facts.specs.Watchers.{same_watchers, carries_by, CarriesBy, idle}
 
 -- The watchers of a fact, in their order.
 abbrev pub watchers_of : SightFact → List Watcher
-watchers_of f = take f.count f.watchers
+watchers_of f = entries_of f.watchers
 
--- A row of five places before any watcher is put there.
-abbrev pub fresh_row : List Watcher
-fresh_row = replicate 5 All
-
--- Watchers put into the first places of a row.
-abbrev pub put_into : List Watcher → List Watcher → List Watcher
-put_into row ws = ws ++ drop (length ws) row
-
--- n watchers, as they were read, stand in the first places of a row.
-abbrev pub Placed : Option (List Watcher) → List Watcher → List Watcher → ℕ → Type 0
-Placed read before after n = (n ≤ 5) × ((ws : List Watcher) × (read ≡ Some ws) × (length ws ≡ n) × (after ≡ put_into before ws))
+-- These watchers in a short list, where each place left holds `all`.
+abbrev pub watcher_list : List Watcher → ShortList Watcher 5
+watcher_list = short_list All
 
 -- The fact with these watchers, of which there are at most five, and this matter.
 abbrev pub fact_of : List Watcher → ℕ → SightFact
-fact_of ws m = record { watchers = put_into fresh_row ws; count = min (length ws) 5; matter = m; few = min-le_right (length ws) 5 }
+fact_of ws m = record { watchers = watcher_list ws; matter = m }
 
 -- The fact of watchers and a matter, if every zone and the matter are listed.
 abbrev pub sight_fact : Option (List Watcher) → Option ℕ → Result SightFact NoFact

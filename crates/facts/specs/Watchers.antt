@@ -1,5 +1,6 @@
 -- Lists of watchers: when they are the same, what carries what, and when one says what is true anyway. Assumes nothing.
-use Rattle.std.specs.Prelude.{◌≡◌, ◌<◌, Bool, true, false, ◌&&◌, ◌||◌, ◌⊎◌, List, [], ◌∷◌, ◌++◌, length, ◌==◌}
+use Rattle.std.specs.Prelude.{◌≡◌, ◌<◌, Bool, true, false, ◌||◌, ◌⊎◌, List, [], ◌∷◌, ◌++◌, length, ◌==◌}
+use Rattle.std.specs.Cmp.Lexicographic.{pointwise}
 use Rattle.facts.specs.declared.sighted.Watcher.{Watcher}
 use Rattle.facts.specs.declared.sighted.Watcher.TheVariants.{All, Zone}
 
@@ -12,10 +13,7 @@ same_watcher (Zone a) (Zone b) = a == b
 
 -- Two lists have the same watchers in the same order.
 abbrev pub same_watchers : List Watcher → List Watcher → Bool
-same_watchers [] [] = true
-same_watchers [] (w ∷ b) = false
-same_watchers (v ∷ a) [] = false
-same_watchers (v ∷ a) (w ∷ b) = same_watcher v w && same_watchers a b
+same_watchers = pointwise same_watcher
 
 -- b is one or more watchers and then r.
 abbrev pub above : List Watcher → List Watcher → Bool

@@ -28,7 +28,7 @@ pub trait Kind {
     // A fact is always true.
     ghost certain: { Self.Fact → Bool };
 
-    // Whether a text is the kind's word.
+    // Whether a text is the kind's word. Each kind compares it, since a trait's function that answers a text is not proved.
     fn is_word(text: &[u8]) -> bool
         ensures { result ≡ bytes_eq text.now wording };
 

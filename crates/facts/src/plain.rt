@@ -1,16 +1,18 @@
 // The plain kind: a fact is a listed matter and carries only itself.
 ghost use Rattle.std.specs.Prelude.{codes, refl};
-ghost use Rattle.facts.specs.Plain.{plain_reading, plain_same, plain_certain};
+ghost use Rattle.facts.specs.Plain.{plain_reading, plain_same, plain_certain, plain_spelled};
+ghost use Rattle.facts.specs.Spelling.{plain_back, plain_same-by_text};
 ghost use Rattle.facts.specs.Texts.{matters_of};
 ghost use Rattle.std.proofs.Common.{rules};
 
 use crate::kinds::Kind;
 use crate::names::{Names, NoFact};
+use crate::spelled_kinds::SpelledKind;
 use crate::text_kinds::TextKind;
-use sheets::{bytes, listed, names};
+use sheets::{listed, names};
 
 // A fact (an atom): the listed matter at an index counted from 0.
-#[derive(Clone, Copy)]
+#[derive(Clone, Copy, Debug, PartialEq, Eq)]
 pub struct PlainFact {
     pub matter: usize,
 }
@@ -38,25 +40,24 @@ impl Kind for Plain {
     ghost transitive = { Prim.search rules };
 
     fn is_word(text: &[u8]) -> bool {
-        bytes::same(text, b"plain")
+        text == b"plain".as_slice()
     }
 
     fn read(names: &Names, text: &[u8]) -> Result<PlainFact, NoFact> {
         if !names::is_name(text) {
             return Err(NoFact::NotItsForm);
         }
-        match listed::find(&names.matters, text) {
-            Some(matter) => Ok(PlainFact { matter }),
-            None => Err(NoFact::NotListed),
-        }
+        listed::find(&names.matters, text)
+            .map(|matter| PlainFact { matter })
+            .ok_or(NoFact::NotListed)
     }
 
     fn same(a: &PlainFact, b: &PlainFact) -> bool {
-        a.matter == b.matter
+        a == b
     }
 
     fn carries(a: &PlainFact, b: &PlainFact) -> bool {
-        a.matter == b.matter
+        a == b
     }
 
     fn always_true(_fact: &PlainFact) -> bool {
@@ -68,4 +69,12 @@ impl TextKind for Plain {
     ghost reading_under = { λ listing. plain_reading listing.matters };
 
     ghost goes_by_texts = { λ names. refl };
+}
+
+impl SpelledKind for Plain {
+    ghost spelling_under = { λ listing. plain_spelled listing.matters };
+
+    ghost reads_back = { λ listing. plain_back listing.matters };
+
+    ghost same_by_text = { λ listing. plain_same-by_text listing.matters };
 }

@@ -1,22 +1,23 @@
 // The sight kind: a fact is up to five watchers and then a matter.
 ghost use Rattle.std.specs.Prelude.{◌≡◌, codes, refl};
-ghost use Rattle.facts.specs.Sight.{watchers_of, sight_reading, sight_same, sight_carries, sight_certain};
+ghost use Rattle.facts.specs.Sight.{watchers_of, sight_reading, sight_same, sight_carries, sight_certain, sight_spelled};
+ghost use Rattle.facts.specs.Spelling.{sight_back, sight_same-by_text};
 ghost use Rattle.facts.specs.Texts.{zones_of, matters_of};
 ghost use Rattle.facts.specs.Carrying.{sight_carries-refl, sight_carries-trans};
 
 use crate::kinds::Kind;
 use crate::names::{Names, NoFact};
 use crate::sighted::{MOST_WATCHERS, SightFact, Watcher};
+use crate::spelled_kinds::SpelledKind;
 use crate::text_kinds::TextKind;
 use crate::{sight_text, watchers};
-use sheets::bytes;
 
 impl SightFact {
     // The watchers, in their order.
     pub fn seen_by(&self) -> &[Watcher]
         ensures { result.now ≡ watchers_of self.now }
     {
-        &self.watchers[0..self.count]
+        self.watchers.entries()
     }
 }
 
@@ -43,15 +44,16 @@ impl Kind for Sight {
     ghost transitive = { sight_carries-trans };
 
     fn is_word(text: &[u8]) -> bool {
-        bytes::same(text, b"sight")
+        text == b"sight".as_slice()
     }
 
     fn read(names: &Names, text: &[u8]) -> Result<SightFact, NoFact> {
         sight_text::read(names, text)
     }
 
+    // Not by a derived `==`, which would compare the places past the count too.
     fn same(a: &SightFact, b: &SightFact) -> bool {
-        a.matter == b.matter && watchers::same_watchers(a.seen_by(), b.seen_by())
+        a.matter == b.matter && a.seen_by() == b.seen_by()
     }
 
     fn carries(a: &SightFact, b: &SightFact) -> bool {
@@ -67,4 +69,12 @@ impl TextKind for Sight {
     ghost reading_under = { λ listing. sight_reading listing.zones listing.matters };
 
     ghost goes_by_texts = { λ names. refl };
+}
+
+impl SpelledKind for Sight {
+    ghost spelling_under = { λ listing. sight_spelled listing.zones listing.matters };
+
+    ghost reads_back = { λ listing. sight_back listing.zones listing.matters };
+
+    ghost same_by_text = { λ listing. sight_same-by_text listing.zones listing.matters };
 }

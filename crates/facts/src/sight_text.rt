@@ -1,16 +1,28 @@
 // How the text of a sight fact is read: its form first, then who and what it names.
-ghost use Rattle.std.specs.Prelude.{◌≡◌, ◌≤◌, map, length, None, MatchOption};
-ghost use Rattle.sheets.specs.Listed.{text_of};
-ghost use Rattle.facts.specs.Parts.{parts_of, is_watcher, fitting, formed, watcher_of, watchers_in, last_of};
-ghost use Rattle.facts.specs.Sight.{Placed, sight_reading};
+ghost use Rattle.std.specs.Prelude.{◌≡◌, ◌≤◌, [], ◌∷◌, ◌++◌, map, length};
+ghost use Rattle.std.specs.List.{list_all};
+ghost use Rattle.std.specs.Option.{option_map};
+ghost use Rattle.sheets.specs.Pieces.{following};
+ghost use Rattle.facts.specs.Parts.{parts_of, is_watcher, fitting, formed, watcher_of, watchers_named};
+ghost use Rattle.facts.specs.Sight.{watcher_list, sight_reading};
 ghost use Rattle.facts.specs.Texts.{zones_of, matters_of};
 
 use crate::names::{Names, NoFact};
+use crate::short_list::ShortList;
 use crate::sighted::{MOST_WATCHERS, SightFact, Watcher};
 use sheets::listed::Name;
 use sheets::{listed, names, pieces};
 
 const FULL_STOP: u8 = b'.';
+
+// The text of the watchers' parts, if there are any, and the part of the matter, which is the last.
+fn cut_last(text: &[u8]) -> (Option<&[u8]>, &[u8])
+    ensures { parts_of text.now ≡ following 46 (option_map (λ before. before.now) result.0) ++ result.1.now ∷ [] }
+{
+    let mut halves = text.rsplitn(2, |b| *b == FULL_STOP);
+    let matter = halves.next().unwrap_or(text);
+    (halves.next(), matter)
+}
 
 fn is_watcher(part: &[u8]) -> bool
     ensures { result ≡ is_watcher part.now }
@@ -18,18 +30,22 @@ fn is_watcher(part: &[u8]) -> bool
     names::is_all(part) || names::is_name(part)
 }
 
+// Whether each part of a text is a watcher's, if there is one.
+fn are_watchers(text: Option<&[u8]>) -> bool
+    ensures { result ≡ list_all is_watcher (following 46 (option_map (λ text. text.now) text.entry)) }
+{
+    let Some(text) = text else {
+        return true;
+    };
+    text.split(|b| *b == FULL_STOP).all(|part| is_watcher(part))
+}
+
 // Whether every part but the last is a watcher's and the last has the form of a name.
 fn parts_fit(text: &[u8]) -> bool
     ensures { result ≡ fitting (parts_of text.now) }
 {
-    let (mut part, mut rest) = pieces::cut(text, FULL_STOP);
-    while let Some(after) = rest {
-        if !is_watcher(part) {
-            return false;
-        }
-        (part, rest) = pieces::cut(after, FULL_STOP);
-    }
-    names::is_name(part)
+    let (watchers, matter) = cut_last(text);
+    are_watchers(watchers) && names::is_name(matter)
 }
 
 fn has_form(text: &[u8]) -> bool
@@ -39,41 +55,27 @@ fn has_form(text: &[u8]) -> bool
 }
 
 fn listed_watcher(zones: &[Name], part: &[u8]) -> Option<Watcher>
-    ensures { result ≡ watcher_of (map text_of zones.now) part.now }
+    ensures { result ≡ watcher_of zones.now part.now }
 {
     if names::is_all(part) {
         return Some(Watcher::All);
     }
-    match listed::find(zones, part) {
-        Some(zone) => Some(Watcher::Zone(zone)),
-        None => None,
-    }
+    listed::find(zones, part).map(Watcher::Zone)
 }
 
-// Puts the watchers into the first places of a row and answers how many they are, unless a zone is not listed.
-fn put_watchers(zones: &[Name], text: &[u8], row: &mut [Watcher; MOST_WATCHERS]) -> Option<usize>
-    requires { length (parts_of text.now) ≤ 6 }
-    ensures { MatchOption result (watchers_in (map text_of zones.now) (parts_of text.now) ≡ None) (Placed (watchers_in (map text_of zones.now) (parts_of text.now)) row.old row.new) }
+// The watchers that the parts of a text name, if there is one, unless a zone is not listed.
+fn listed_watchers(zones: &[Name], text: Option<&[u8]>) -> Option<ShortList<Watcher, MOST_WATCHERS>>
+    requires { length (following 46 (option_map (λ text. text.now) text)) ≤ 5 }
+    ensures { result ≡ option_map watcher_list (watchers_named zones.now (following 46 (option_map (λ text. text.now) text.entry))) }
 {
-    let mut count = 0;
-    let (mut part, mut rest) = pieces::cut(text, FULL_STOP);
-    while let Some(after) = rest {
-        row[count] = listed_watcher(zones, part)?;
-        count += 1;
-        (part, rest) = pieces::cut(after, FULL_STOP);
+    let mut watchers = ShortList::none(Watcher::All);
+    let Some(text) = text else {
+        return Some(watchers);
+    };
+    for part in text.split(|b| *b == FULL_STOP) {
+        watchers.push(listed_watcher(zones, part)?).ok()?;
     }
-    Some(count)
-}
-
-// The part of the matter.
-fn last_part(text: &[u8]) -> &[u8]
-    ensures { result.now ≡ last_of (parts_of text.now) }
-{
-    let (mut part, mut rest) = pieces::cut(text, FULL_STOP);
-    while let Some(after) = rest {
-        (part, rest) = pieces::cut(after, FULL_STOP);
-    }
-    part
+    Some(watchers)
 }
 
 // The fact that a text is. Its form is judged whole before any name in it is looked up.
@@ -83,16 +85,8 @@ pub fn read(names: &Names, text: &[u8]) -> Result<SightFact, NoFact>
     if !has_form(text) {
         return Err(NoFact::NotItsForm);
     }
-    let mut watchers = [Watcher::All; MOST_WATCHERS];
-    let Some(count) = put_watchers(&names.zones, text, &mut watchers) else {
-        return Err(NoFact::NotListed);
-    };
-    match listed::find(&names.matters, last_part(text)) {
-        Some(matter) => Ok(SightFact {
-            watchers,
-            count,
-            matter,
-        }),
-        None => Err(NoFact::NotListed),
-    }
+    let (watchers, matter) = cut_last(text);
+    let watchers = listed_watchers(&names.zones, watchers).ok_or(NoFact::NotListed)?;
+    let matter = listed::find(&names.matters, matter).ok_or(NoFact::NotListed)?;
+    Ok(SightFact { watchers, matter })
 }

@@ -1,6 +1,7 @@
 // Texts read by hand, and questions to a short list of facts.
 use crate::kinds::Kind;
 use crate::listed;
+use crate::listed_facts::ListedFacts;
 use crate::names::{Names, NoFact};
 use crate::sight::Sight;
 use sheets::listed::Name;
@@ -73,8 +74,12 @@ fn facts_are_numbered_and_marked(rt: HostRuntime) -> Result<(), Fail> {
         return Err(Fail::new("clear"));
     };
     let facts = [clear, scan_clear, all_clear];
-    assert!(rt; listed::number_of::<Sight>(&names, &facts, b"scan.clear") == Ok(2));
-    assert!(rt; listed::number_of::<Sight>(&names, &facts, b"div.clear") == Err(NoFact::NotListed));
+    let listed_facts = ListedFacts::<Sight> {
+        names: &names,
+        facts: &facts,
+    };
+    assert!(rt; listed_facts.number_of(b"scan.clear") == Ok(2));
+    assert!(rt; listed_facts.number_of(b"div.clear") == Err(NoFact::NotListed));
     let mut row = [true, true, false, true];
     listed::mark_carried::<Sight>(&facts, &all_clear, &mut row);
     assert_eq!(rt; row, [false, true, true, true]);

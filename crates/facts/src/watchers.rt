@@ -1,14 +1,8 @@
-// Lists of watchers: when they are the same, what carries what, and when they say what is true anyway.
+// Lists of watchers: what carries what, and when they say what is true anyway.
 ghost use Rattle.std.specs.Prelude.{◌≡◌, ◌||◌};
-ghost use Rattle.facts.specs.Watchers.{same_watchers, same_watcher, above, carries_jointly, carries_by, is_every, idle};
+ghost use Rattle.facts.specs.Watchers.{same_watcher, above, carries_jointly, carries_by, is_every, idle};
 
 use crate::sighted::Watcher;
-
-pub fn same_watchers(a: &[Watcher], b: &[Watcher]) -> bool
-    ensures { result ≡ same_watchers a.now b.now }
-{
-    a == b
-}
 
 // Whether the watchers are one or more and then these last ones.
 fn ends_above(watchers: &[Watcher], last: &[Watcher]) -> bool
@@ -31,28 +25,21 @@ fn carries_jointly(a: &[Watcher], b: &[Watcher]) -> bool
 pub fn carries_by(a: &[Watcher], b: &[Watcher]) -> bool
     ensures { result ≡ carries_by a.now b.now }
 {
-    same_watchers(a, b) || carries_jointly(a, b)
+    a == b || carries_jointly(a, b)
 }
 
 // Whether a watcher after another adds nothing: it is `all`, or the same zone again.
 fn adds_nothing(before: Watcher, watcher: Watcher) -> bool
     ensures { result ≡ (is_every watcher || same_watcher before watcher) }
 {
-    match (before, watcher) {
-        (_, Watcher::All) => true,
-        (Watcher::Zone(a), Watcher::Zone(b)) => a == b,
-        (Watcher::All, Watcher::Zone(_)) => false,
-    }
+    watcher == Watcher::All || watcher == before
 }
 
 // Whether some watcher adds nothing to the one before it.
 pub fn is_idle(watchers: &[Watcher]) -> bool
     ensures { result ≡ idle watchers.now }
 {
-    for i in 1..watchers.len() {
-        if adds_nothing(watchers[i - 1], watchers[i]) {
-            return true;
-        }
-    }
-    false
+    watchers
+        .array_windows::<2>()
+        .any(|[before, watcher]| adds_nothing(*before, *watcher))
 }

@@ -1,6 +1,7 @@
 pub mod Exits
-pub mod Nodes
+pub mod InBrackets
 pub mod Numbering
 pub mod Steps
+pub mod Trees
 pub mod Unique
 pub mod Whole

@@ -1,5 +1,5 @@
 -- The spelling fixes the formula, whatever follows it. Assumes nothing.
-use Rattle.std.proofs.Common.{◌≡◌, ℕ, true, false, List, [], ◌∷◌, ◌++◌, sym, refl, ap, ◌∙◌, arith}
+use Rattle.std.proofs.Common.{◌≡◌, ℕ, true, false, List, [], ◌∷◌, ◌++◌, drop, sym, refl, ap, ◌∙◌, arith}
 use Rattle.std.specs.List.{AllByRecursion}
 use Rattle.std.proofs.lemmas.List.{append_assoc, append-nil}
 use Rattle.formulas.specs.Formulas.{Formula, Formulas, fact, neg, all, none, more}
@@ -20,12 +20,12 @@ on-ends (more p ps) rest = refl
 -- bytes that are no marks end where the first mark stands
 pub facts_unique : (a b r s : List ℕ) → AllByRecursion (λ x. is_mark x ≡ false) a → AllByRecursion (λ x. is_mark x ≡ false) b → Ends r → Ends s → a ++ r ≡ b ++ s → (a ≡ b) × (r ≡ s)
 facts_unique [] [] r s pa pb er es e = (refl, e)
-facts_unique [] (y ∷ b) [] s pa pb er es e = let no : ◌≡◌ {A = ℕ} 0 1 = cc in absurd (omega arith)
+facts_unique [] (y ∷ b) [] s pa pb er es e = cc
 facts_unique [] (y ∷ b) (x ∷ r) s pa pb er es e =
-    let same : x ≡ y = cc in let at = ap is_mark same in let no : true ≡ false = sym er ∙ at ∙ pb.0 in let bad : ◌≡◌ {A = ℕ} 0 1 = cc in absurd (omega arith)
-facts_unique (x ∷ a) [] r [] pa pb er es e = let no : ◌≡◌ {A = ℕ} 0 1 = cc in absurd (omega arith)
+    let same : x ≡ y = cc in let at = ap is_mark same in let no : true ≡ false = sym er ∙ at ∙ pb.0 in cc
+facts_unique (x ∷ a) [] r [] pa pb er es e = cc
 facts_unique (x ∷ a) [] r (y ∷ s) pa pb er es e =
-    let same : y ≡ x = cc in let at = ap is_mark same in let no : true ≡ false = sym es ∙ at ∙ pa.0 in let bad : ◌≡◌ {A = ℕ} 0 1 = cc in absurd (omega arith)
+    let same : y ≡ x = cc in let at = ap is_mark same in let no : true ≡ false = sym es ∙ at ∙ pa.0 in cc
 facts_unique (x ∷ a) (y ∷ b) r s pa pb er es e =
     let head : x ≡ y = cc in
     let tail : a ++ r ≡ b ++ s = cc in
@@ -38,7 +38,7 @@ facts_unique (x ∷ a) (y ∷ b) r s pa pb er es e =
 pub fact_no_mark : (a rest t : List ℕ) (m : ℕ) → FactText a → is_mark m ≡ true → a ++ rest ≡ m ∷ t → ⊥
 fact_no_mark [] rest t m f mark e = omega (arith, f.0)
 fact_no_mark (x ∷ a) rest t m f mark e =
-    let same : m ≡ x = cc in let no : true ≡ false = sym mark ∙ ap is_mark same ∙ f.1.0 in let bad : ◌≡◌ {A = ℕ} 0 1 = cc in omega arith
+    let same : m ≡ x = cc in let no : true ≡ false = sym mark ∙ ap is_mark same ∙ f.1.0 in cc
 
 -- no formula begins with a closing bracket or an `&`
 pub begins_no_end : (p : Formula (List ℕ)) (rest t : List ℕ) (m : ℕ) → WellTexted p → is_mark m ≡ true → (33 ≡ m → ⊥) → (40 ≡ m → ⊥) → spelled p ++ rest ≡ m ∷ t → ⊥
@@ -54,9 +54,7 @@ bracket_text ps rest = ap (λ l. 40 ∷ l) (append_assoc (spelled_all ps) (41 �
 pub more-text : (p : Formula (List ℕ)) (ps : Formulas (List ℕ)) (rest : List ℕ) → (spelled p ++ spelled_on ps) ++ 41 ∷ rest ≡ spelled p ++ (spelled_on ps ++ 41 ∷ rest)
 more-text p ps rest = append_assoc (spelled p) (spelled_on ps) (41 ∷ rest)
 
-pub tails : (x y : ℕ) (a b : List ℕ) → x ∷ a ≡ y ∷ b → a ≡ b
-tails x y a b e = cc
-
+-- two texts that are one begin with one byte
 pub heads : (x y : ℕ) (a b : List ℕ) → x ∷ a ≡ y ∷ b → x ≡ y
 heads x y a b e = cc
 
@@ -66,15 +64,15 @@ mutual
   unique (fact a) (neg q) r s wp wq cp cq e = absurd (fact_no_mark a r (spelled q ++ s) 33 wp refl e)
   unique (fact a) (all qs) r s wp wq cp cq e = absurd (fact_no_mark a r (spelled_all qs ++ 41 ∷ s) 40 wp refl (e ∙ bracket_text qs s))
   unique (neg p) (fact b) r s wp wq cp cq e = absurd (fact_no_mark b s (spelled p ++ r) 33 wq refl (sym e))
-  unique (neg p) (neg q) r s wp wq cp cq e = let both = unique p q r s wp wq cp cq (tails 33 33 _ _ e) in (ap neg both.0, both.1)
+  unique (neg p) (neg q) r s wp wq cp cq e = let both = unique p q r s wp wq cp cq (ap (drop 1) e) in (ap neg both.0, both.1)
   unique (neg p) (all qs) r s wp wq cp cq e = let no = heads 33 40 _ _ e in absurd (omega arith)
   unique (all ps) (fact b) r s wp wq cp cq e = absurd (fact_no_mark b s (spelled_all ps ++ 41 ∷ r) 40 wq refl (sym e ∙ bracket_text ps r))
   unique (all ps) (neg q) r s wp wq cp cq e = let no = heads 40 33 _ _ e in absurd (omega arith)
   unique (all ps) (all qs) r s wp wq cp cq e =
-      let both = unique-all ps qs r s wp wq (tails 40 40 _ _ (sym (bracket_text ps r) ∙ e ∙ bracket_text qs s)) in (ap all both.0, both.1)
+      let both = unique-all ps qs r s wp wq (ap (drop 1) (sym (bracket_text ps r) ∙ e ∙ bracket_text qs s)) in (ap all both.0, both.1)
 
   pub unique-all : (ps qs : Formulas (List ℕ)) (r s : List ℕ) → EachFactIn FactText ps → EachFactIn FactText qs → spelled_all ps ++ 41 ∷ r ≡ spelled_all qs ++ 41 ∷ s → (ps ≡ qs) × (r ≡ s)
-  unique-all none none r s wp wq e = (refl, tails 41 41 r s e)
+  unique-all none none r s wp wq e = (refl, ap (drop 1) e)
   unique-all none (more q qs) r s wp wq e =
       absurd (begins_no_end q (spelled_on qs ++ 41 ∷ s) r 41 wq.0 refl (λ h. omega arith) (λ h. omega arith) (sym (more-text q qs s) ∙ sym e))
   unique-all (more p ps) none r s wp wq e =
@@ -88,11 +86,11 @@ mutual
       (both, others.1)
 
   pub unique-on : (ps qs : Formulas (List ℕ)) (r s : List ℕ) → EachFactIn FactText ps → EachFactIn FactText qs → spelled_on ps ++ 41 ∷ r ≡ spelled_on qs ++ 41 ∷ s → (ps ≡ qs) × (r ≡ s)
-  unique-on none none r s wp wq e = (refl, tails 41 41 r s e)
+  unique-on none none r s wp wq e = (refl, ap (drop 1) e)
   unique-on none (more q qs) r s wp wq e = let no = heads 41 38 _ _ e in absurd (omega arith)
   unique-on (more p ps) none r s wp wq e = let no = heads 38 41 _ _ e in absurd (omega arith)
   unique-on (more p ps) (more q qs) r s wp wq e =
-      let first = unique p q (spelled_on ps ++ 41 ∷ r) (spelled_on qs ++ 41 ∷ s) wp.0 wq.0 (closes p _ (on-ends ps r)) (closes q _ (on-ends qs s)) (sym (more-text p ps r) ∙ tails 38 38 _ _ e ∙ more-text q qs s) in
+      let first = unique p q (spelled_on ps ++ 41 ∷ r) (spelled_on qs ++ 41 ∷ s) wp.0 wq.0 (closes p _ (on-ends ps r)) (closes q _ (on-ends qs s)) (sym (more-text p ps r) ∙ ap (drop 1) e ∙ more-text q qs s) in
       let others = unique-on ps qs r s wp.1 wq.1 first.1 in
       let one = first.0 in
       let on = others.0 in

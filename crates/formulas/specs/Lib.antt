@@ -1,6 +1,5 @@
 pub mod Formulas
 pub mod Laws
-pub mod Marks
 pub mod Reading
 pub mod Resolving
 pub mod Shapes

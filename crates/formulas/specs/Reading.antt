@@ -1,8 +1,8 @@
 -- What it means to read a formula from a text. Assumes nothing.
-use Rattle.std.specs.Prelude.{◌≡◌, ℕ, ◌≤◌, true, List, [], ◌∷◌, ◌++◌, Ok, Err, Result}
+use Rattle.std.specs.Prelude.{◌≡◌, ℕ, ◌≤◌, true, List, [], ◌∷◌, ◌++◌, Ok, Err, Result, Vec}
 use Rattle.std.specs.Borrow.{Bor}
+use Rattle.std.specs.declared.alloc.Global.{Global}
 use Rattle.formulas.specs.declared.tree.Formula.{Formula as Tree}
-use Rattle.formulas.specs.declared.tree.Formulas.{Formulas as Trees}
 use Rattle.formulas.specs.declared.tree.Unread.{Unread}
 use Rattle.formulas.specs.declared.tree.Unread.TheVariants.{NotItsForm, NoMemory}
 use Rattle.formulas.specs.Formulas.{Formula, Formulas, fact, neg, all}
@@ -52,7 +52,7 @@ Formed depth text (Err NotItsForm) = (p : Formula (List ℕ)) (rest : List ℕ) 
 Formed depth text (Err NoMemory) = Unit {0}
 
 -- What stands for formulas up to a closing bracket, or that there are none.
-abbrev pub FormedOn : ℕ → List ℕ → Result (Trees (Bor (List ℕ)) × Bor (List ℕ)) Unread → Type 0
-FormedOn depth text (Ok r) = GoesOn depth text (texted_all r.0) r.1.now
+abbrev pub FormedOn : ℕ → List ℕ → Result (Vec (Tree (Bor (List ℕ))) Global × Bor (List ℕ)) Unread → Type 0
+FormedOn depth text (Ok r) = GoesOn depth text (texted_all r.0.items) r.1.now
 FormedOn depth text (Err NotItsForm) = (ps : Formulas (List ℕ)) (rest : List ℕ) → GoesOn depth text ps rest → ⊥
 FormedOn depth text (Err NoMemory) = Unit {0}

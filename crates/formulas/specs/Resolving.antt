@@ -5,9 +5,8 @@ use Rattle.facts.specs.declared.names.NoFact.TheVariants as no_fact
 use Rattle.formulas.specs.declared.resolve.Unresolved.{Unresolved}
 use Rattle.formulas.specs.declared.resolve.Unresolved.TheVariants.{NotItsForm, NotListed, NoMemory}
 use Rattle.formulas.specs.declared.tree.Formula.{Formula as Tree}
-use Rattle.formulas.specs.declared.tree.Formulas.{Formulas as Trees}
 use Rattle.formulas.specs.Formulas.{Formula, Formulas, fact, neg, all, none, more}
-use Rattle.formulas.specs.Shapes.{numbers, numbers_all}
+use Rattle.formulas.specs.Shapes.{numbers}
 
 abbrev mutual
   -- Every fact of a formula passes a test.
@@ -39,6 +38,11 @@ has_form (Ok n) = true
 has_form (Err no_fact.NotItsForm) = false
 has_form (Err no_fact.NotListed) = true
 
+-- Why a formula is none over the listed facts, where one of its facts is none.
+abbrev pub why_not : NoFact → Unresolved
+why_not no_fact.NotItsForm = NotItsForm
+why_not no_fact.NotListed = NotListed
+
 -- A text is a listed fact.
 abbrev pub is_listed : Result ℕ NoFact → Bool
 is_listed (Ok n) = true
@@ -53,23 +57,12 @@ number_in (Err why) = 0
 abbrev pub Numbered : (List ℕ → Result ℕ NoFact) → Formula (List ℕ) → Formula ℕ → Type 0
 Numbered number p q = (each_passes (λ text. is_listed (number text)) p ≡ true) × (q ≡ renamed (λ text. number_in (number text)) p)
 
--- The same of some formulas.
-abbrev pub NumberedIn : (List ℕ → Result ℕ NoFact) → Formulas (List ℕ) → Formulas ℕ → Type 0
-NumberedIn number ps qs = (each_passes_in (λ text. is_listed (number text)) ps ≡ true) × (qs ≡ renamed_in (λ text. number_in (number text)) ps)
-
 -- The numbers of a formula's facts, or a fault that some fact has.
 abbrev pub Numbers : (List ℕ → Result ℕ NoFact) → Formula (List ℕ) → Result (Tree ℕ) Unresolved → Type 0
 Numbers number p (Ok t) = Numbered number p (numbers t)
 Numbers number p (Err NotItsForm) = each_passes (λ text. has_form (number text)) p ≡ false
 Numbers number p (Err NotListed) = each_passes (λ text. is_listed (number text)) p ≡ false
 Numbers number p (Err NoMemory) = Unit {0}
-
--- The same of some formulas.
-abbrev pub NumbersIn : (List ℕ → Result ℕ NoFact) → Formulas (List ℕ) → Result (Trees ℕ) Unresolved → Type 0
-NumbersIn number ps (Ok ts) = NumberedIn number ps (numbers_all ts)
-NumbersIn number ps (Err NotItsForm) = each_passes_in (λ text. has_form (number text)) ps ≡ false
-NumbersIn number ps (Err NotListed) = each_passes_in (λ text. is_listed (number text)) ps ≡ false
-NumbersIn number ps (Err NoMemory) = Unit {0}
 
 -- What a formula over texts comes to. A fact that has not its form, wherever it stands, comes before one that is not
 -- listed. Memory can be wanting only once every fact has its form.

@@ -1,40 +1,41 @@
 -- What a tree of the code stands for. Assumes nothing.
-use Rattle.std.specs.Prelude.{◌≡◌, ℕ, List, box_value, Box}
+use Rattle.std.specs.Prelude.{ℕ, List, [], ◌∷◌, map}
 use Rattle.std.specs.Borrow.{Bor}
-use Rattle.std.specs.declared.alloc.Global.{Global}
-use Rattle.formulas.specs.declared.tree.Formula.{Formula as Tree}
-use Rattle.formulas.specs.declared.tree.Formulas.{Formulas as Trees, Cons}
-use Rattle.formulas.specs.declared.tree.Formula.TheVariants.{Fact, Not', All', Nil, Cons'}
+use Rattle.formulas.specs.declared.tree.Formula.{Formula as Tree, fold-Formula}
+use Rattle.formulas.specs.declared.tree.Formula.TheOpen.{Formula-F}
 use Rattle.formulas.specs.Formulas.{Formula, Formulas, fact, neg, all, none, more}
 
-abbrev mutual
-  -- The formula of a tree, where each leaf stands for a fact.
-  pub shape : {L F : Type 0} → Tree L → (L → F) → Formula F
-  shape (Fact l) leaf = fact (leaf l)
-  shape (Not' b p) leaf = neg (shape p leaf)
-  shape (All' b ps) leaf = all (shapes ps leaf)
+-- Formulas in a row, from the list of them.
+abbrev pub row : {F : Type 0} → List (Formula F) → Formulas F
+row [] = none
+row (p ∷ ps) = more p (row ps)
 
-  -- The formulas of some trees.
-  pub shapes : {L F : Type 0} → Trees L → (L → F) → Formulas F
-  shapes Nil leaf = none
-  shapes (Cons' b p c ps) leaf = more (shape p leaf) (shapes ps leaf)
+-- The formula of one level of a tree, whose leaf stands for a fact and whose inner trees are formulas already.
+abbrev pub level : {L F : Type 0} → (L → F) → Formula-F L (Formula F) → Formula F
+level leaf (Formula-F.Fact l) = fact (leaf l)
+level leaf (Formula-F.Not p) = neg p.value
+level leaf (Formula-F.All ps) = all (row ps.items)
+
+-- The formula of a tree, where each leaf stands for a fact.
+abbrev pub shape : {L F : Type 0} → Tree L → (L → F) → Formula F
+shape {L} {F} t leaf = fold-Formula L (Formula F) (level leaf) t
+
+-- The formulas of some trees.
+abbrev pub shapes : {L F : Type 0} → List (Tree L) → (L → F) → Formulas F
+shapes ts leaf = row (map (λ t. shape t leaf) ts)
 
 -- The formula of a tree whose leaves are parts of a text.
 abbrev pub texted : Tree (Bor (List ℕ)) → Formula (List ℕ)
 texted t = shape t (λ l. l.now)
 
 -- The formulas of such trees.
-abbrev pub texted_all : Trees (Bor (List ℕ)) → Formulas (List ℕ)
+abbrev pub texted_all : List (Tree (Bor (List ℕ))) → Formulas (List ℕ)
 texted_all ts = shapes ts (λ l. l.now)
-
--- Trees in a row are one and then the others.
-abbrev pub Joined : {L : Type 0} → Tree L → Trees L → Trees L → Type 0
-Joined {L} one others ts = (b : Box (Tree L) Global) × (c : Box (Trees L) Global) × (ts ≡ Cons b c) × (box_value b ≡ one) × (box_value c ≡ others)
 
 -- The formula of a tree whose leaves are fact numbers.
 abbrev pub numbers : Tree ℕ → Formula ℕ
 numbers t = shape t (λ n. n)
 
 -- The formulas of such trees.
-abbrev pub numbers_all : Trees ℕ → Formulas ℕ
+abbrev pub numbers_all : List (Tree ℕ) → Formulas ℕ
 numbers_all ts = shapes ts (λ n. n)

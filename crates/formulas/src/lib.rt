@@ -1,7 +1,6 @@
 // Formulas: needs, conditions and the goal.
 #![tactic(auto)]
 
-mod build;
 pub mod laws;
 mod marks;
 mod reader;

@@ -1,21 +1,18 @@
 // The reader of formulas and that of bracket lists, which call each other as deep as they may.
 ghost use Rattle.formulas.specs.Reading.{Formed, FormedOn};
 
-use crate::build::{boxed, joined};
 use crate::marks;
-use crate::marks::{Joint, Opening};
-use crate::tree::{Formula, Formulas, Unread};
+use crate::tree::{Formula, Unread};
 use std::alloc::Global;
 
-// The fact that a text begins with.
+// The fact that a text begins with, and what follows it.
 fn fact<'a>(text: &'a [u8]) -> Result<(Formula<&'a [u8]>, &'a [u8]), Unread>
     ensures { Formed 0 text.now result }
 {
-    let n = marks::before_mark(text);
-    if n == 0 {
-        return Err(Unread::NotItsForm);
+    match text.split_at(marks::before_mark(text)) {
+        ([], _) => Err(Unread::NotItsForm),
+        (fact, rest) => Ok((Formula::Fact(fact), rest)),
     }
-    Ok((Formula::Fact(&text[0..n]), &text[n..]))
 }
 
 // The formula that a text begins with, if it is at most so deep, and what follows it.
@@ -30,17 +27,17 @@ pub fn formula<'a>(
     if depth == 0 {
         return fact(text);
     }
-    match marks::starts_with(text) {
-        Opening::Turn(after) => {
+    match text {
+        [b'!', after @ ..] => {
             let (inner, rest) = formula(heap, after, depth - 1)?;
-            Ok((Formula::Not(boxed(heap, inner)?), rest))
+            Ok((Formula::Not(Box::new(heap, inner)?), rest))
         }
-        Opening::NoFormulas(rest) => Ok((Formula::All(boxed(heap, Formulas::Nil)?), rest)),
-        Opening::Bracket(after) => {
+        [b'(', b')', rest @ ..] => Ok((Formula::All(Vec::new(heap)), rest)),
+        [b'(', after @ ..] => {
             let (inner, rest) = brackets(heap, after, depth - 1)?;
-            Ok((Formula::All(boxed(heap, inner)?), rest))
+            Ok((Formula::All(inner), rest))
         }
-        Opening::Other => fact(text),
+        _ => fact(text),
     }
 }
 
@@ -50,16 +47,18 @@ fn brackets<'a>(
     heap: Global,
     text: &'a [u8],
     depth: usize,
-) -> Result<(Formulas<&'a [u8]>, &'a [u8]), Unread>
+) -> Result<(Vec<Formula<&'a [u8]>>, &'a [u8]), Unread>
     ensures { FormedOn depth text.now result }
 {
-    let (one, after) = formula(heap, text, depth)?;
-    match marks::goes_on_with(after) {
-        Joint::And(next) => {
-            let (others, rest) = brackets(heap, next, depth)?;
-            Ok((joined(heap, one, others)?, rest))
+    let mut all = Vec::new(heap);
+    let mut left = text;
+    loop {
+        let (one, after) = formula(heap, left, depth)?;
+        all.push(one)?;
+        match after {
+            [b'&', next @ ..] => left = next,
+            [b')', rest @ ..] => return Ok((all, rest)),
+            _ => return Err(Unread::NotItsForm),
         }
-        Joint::Close(rest) => Ok((joined(heap, one, Formulas::Nil)?, rest)),
-        Joint::Other => Err(Unread::NotItsForm),
     }
 }

@@ -3,6 +3,7 @@ use crate::resolve::Unresolved;
 use crate::tree::Unread;
 use crate::{reading, resolve, size, truth};
 use facts::kinds::Kind;
+use facts::listed_facts::ListedFacts;
 use facts::names::Names;
 use facts::plain::{Plain, PlainFact};
 use sheets::listed::Name;
@@ -69,6 +70,10 @@ fn formulas_come_true(rt: HostRuntime) -> Result<(), Fail> {
         matters,
     };
     let facts = [PlainFact { matter: 0 }, PlainFact { matter: 1 }];
+    let listed: ListedFacts<Plain> = ListedFacts {
+        names: &names,
+        facts: &facts,
+    };
     let rows = [
         ("a", Ok(true)),
         ("b", Ok(false)),
@@ -83,14 +88,11 @@ fn formulas_come_true(rt: HostRuntime) -> Result<(), Fail> {
     ];
     for (text, expected) in rows {
         let formula = reading::read(heap, text.as_bytes())?;
-        match resolve::resolve::<Plain>(heap, &names, &facts, &formula) {
-            Ok(numbered) => assert!(rt;
-                Ok(truth::truth(&numbered, &[true, false])) == expected,
-                "{}",
-                text
-            ),
-            Err(why) => assert!(rt; Err(why) == expected, "{}", text),
-        }
+        let came = resolve::resolve(heap, &listed, &formula).map(|numbered| truth::truth(
+            &numbered,
+            &[true, false],
+        ));
+        assert!(rt; came == expected, "{}", text);
     }
     Ok(())
 }

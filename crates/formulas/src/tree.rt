@@ -2,23 +2,14 @@
 ghost use Rattle.std.specs.Prelude.{◌≡◌};
 ghost use Rattle.formulas.specs.declared.tree.Unread.TheVariants.{NoMemory};
 
-use std::alloc::AllocError;
+use std::alloc::{AllocError, AllocFailed};
 
 // A fact, the opposite of a formula, or all of some formulas.
-#[cycle(formula)]
 #[derive(Drop)]
 pub enum Formula<L> {
     Fact(L),
     Not(Box<Formula<L>>),
-    All(Box<Formulas<L>>),
-}
-
-// Formulas in a row.
-#[cycle(formula)]
-#[derive(Drop)]
-pub enum Formulas<L> {
-    Nil,
-    Cons(Box<Formula<L>>, Box<Formulas<L>>),
+    All(Vec<Formula<L>>),
 }
 
 // Why no formula was read.
@@ -32,6 +23,14 @@ impl From<AllocError> for Unread {
     ghost from_gives = { λ _ r. r ≡ NoMemory };
 
     fn from(_: AllocError) -> Unread {
+        Unread::NoMemory
+    }
+}
+
+impl<T: Drop> From<AllocFailed<T>> for Unread {
+    ghost from_gives = { λ _ r. r ≡ NoMemory };
+
+    fn from(_: AllocFailed<T>) -> Unread {
         Unread::NoMemory
     }
 }

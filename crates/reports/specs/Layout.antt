@@ -1,5 +1,5 @@
 -- The report on the layout of a depot sheet. Assumes nothing.
-use Rattle.std.specs.Prelude.{◌≡◌, ℕ, suc, Bool, cond, ◌⊎◌, List, [], ◌∷◌, ◌++◌, Some, codes, decimal, slice_index_or}
+use Rattle.std.specs.Prelude.{◌≡◌, ℕ, Bool, ◌⊎◌, List, [], ◌∷◌, ◌++◌, Some, codes, count_by, decimal, slice_index_or}
 use Rattle.std.specs.List.{flat_map}
 use Rattle.std.specs.Str.{bytes_eq}
 use Rattle.sheets.specs.declared.faults.Fault.{Fault}
@@ -22,8 +22,7 @@ has_letter letter l = bytes_eq (slice_index_or (fields l) 0 []) (letter ∷ [])
 
 -- How many lines have a letter as their first field.
 abbrev pub lines_with : ℕ → List Line → ℕ
-lines_with letter [] = 0
-lines_with letter (l ∷ ls) = cond (has_letter letter l) (suc (lines_with letter ls)) (lines_with letter ls)
+lines_with letter = count_by (has_letter letter)
 
 -- A letter and how many lines have it.
 abbrev pub counted : List ℕ → ℕ → List ℕ

@@ -1,50 +1,50 @@
 // The report on a depot sheet, until plans are judged.
-ghost use Rattle.std.specs.Prelude.{◌≡◌, ◌++◌, IfOk, string_bytes};
-ghost use Rattle.reports.specs.DepotReport.{notice, inventory_text, DepotReport};
+ghost use Rattle.std.specs.Prelude.{IfOk, Some};
+ghost use Rattle.reports.specs.DepotReport.{inventory_text, DepotReport};
 
 use crate::refused::refusal_report;
 use depots::any_depot;
 use depots::any_depot::Inventory;
+use sheets::faulty_line::Sheets;
 use sheets::refusals::Refusal;
 use std::alloc::{AllocError, Global};
+use std::fmt;
 
 const NOTICE: &str = "The depot sheet is read; the plan is not judged yet.\n";
 
-// A line for each table of a depot.
-fn inventory_text(heap: Global, inventory: Inventory) -> Result<String, AllocError>
-    ensures { IfOk result (λ t. string_bytes t ≡ inventory_text inventory) }
-{
-    let Inventory {
-        zones,
-        facts,
-        moves,
-        effects,
-        formulas,
-    } = inventory;
-    format!(in heap;
-        "zones {zones}\nfacts {facts}\nmoves {moves}\neffects {effects}\nformulas {formulas}\n"
-    )
-}
+// An inventory as it is printed: a line for each table.
+#[derive(Clone, Copy)]
+struct Tables(Inventory);
 
-// The report on a sheet that is read.
-fn read_report(heap: Global, inventory: Inventory) -> Result<Vec<u8>, AllocError>
-    ensures { IfOk result (λ v. v.items ≡ notice ++ inventory_text inventory) }
-{
-    let text = inventory_text(heap, inventory)?;
-    let mut report = Vec::from_slice(heap, NOTICE.as_bytes())?;
-    report.extend_from_slice(text.as_bytes())?;
-    Ok(report)
+impl fmt::Display for Tables {
+    ghost output = { λ tables. Some (inventory_text tables.0) };
+
+    fn fmt<W: fmt::Write>(&self, f: &mut fmt::Formatter<W>) -> fmt::Result {
+        let Inventory {
+            zones,
+            facts,
+            moves,
+            effects,
+            formulas,
+        } = self.0;
+        writeln!(
+            f,
+            "zones {zones}\nfacts {facts}\nmoves {moves}\neffects {effects}\nformulas {formulas}"
+        )
+    }
 }
 
 // What is printed of a depot sheet: its inventory where it is read, and else its refusal.
-pub fn depot_report(heap: Global, depot: &[u8], plan: &[u8]) -> Result<Vec<u8>, AllocError>
-    ensures { IfOk result (λ v. DepotReport depot.now plan.now v.items) }
+pub fn depot_report(heap: Global, sheets: &Sheets) -> Result<Vec<u8>, AllocError>
+    ensures { IfOk result (λ v. DepotReport sheets.now.depot.now sheets.now.plan.now v.items) }
 {
-    match any_depot::read(heap, depot) {
-        Ok(read) => read_report(heap, read.inventory()),
-        Err(fault) => match fault.refusal {
-            Refusal::NoMemory => Err(AllocError),
-            _ => refusal_report(heap, depot, plan, &fault),
-        },
+    match any_depot::read(heap, sheets.depot) {
+        Ok(read) => {
+            let report = format!(in heap; "{NOTICE}{}", Tables(read.inventory()))?;
+            Ok(report.into_bytes())
+        }
+        // No report tells that memory was wanting, so it stays the error that it was.
+        Err(fault) if matches!(fault.refusal, Refusal::NoMemory) => Err(AllocError),
+        Err(fault) => refusal_report(heap, sheets, &fault),
     }
 }

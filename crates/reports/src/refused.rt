@@ -1,13 +1,15 @@
 // The report of a refusal.
-ghost use Rattle.std.specs.Prelude.{◌≡◌, [], ◌++◌, IfOk, Some, string_bytes, OnOk};
+ghost use Rattle.std.specs.Prelude.{◌≡◌, ◌++◌, IfOk, Some, OnOk};
 ghost use Rattle.std.specs.Option.{option_map};
-ghost use Rattle.reports.specs.Refused.{word_of, placed_as, detailed_as, refusal_line, shows_line, line_for, shown_as, refusal_report};
+ghost use Rattle.reports.specs.Refused.{word_of, refusal_line, shows_line, line_for, shown_as, refusal_report};
 
 use sheets::faults::{Fault, Sheet};
-use sheets::faulty_line::line;
+use sheets::faulty_line::Sheets;
 use sheets::refusals::Refusal;
 use std::alloc::{AllocError, Global};
+use std::fmt;
 
+// The word for a sheet, or for none. It is no `Display`, since the option is the library's type.
 fn word(sheet: Option<Sheet>) -> &'static str
     ensures { result.now ≡ word_of sheet }
 {
@@ -18,29 +20,20 @@ fn word(sheet: Option<Sheet>) -> &'static str
     }
 }
 
-// The front of the line that tells a refusal: its number, the sheet and the line.
-fn placed(heap: Global, number: u8, sheet: &str, line: usize) -> Result<String, AllocError>
-    ensures { IfOk result (λ t. string_bytes t ≡ placed_as number sheet.now line []) }
-{
-    format!(in heap; "NO\t{number}\t{sheet}\t{line}\t")
-}
+// The line of the report that tells a refusal: its number, the sheet, the line and the four details.
+#[derive(Clone, Copy)]
+struct Told<'a>(&'a Fault);
 
-// Its back: the four details.
-fn detailed(heap: Global, details: [usize; 4]) -> Result<String, AllocError>
-    ensures { IfOk result (λ t. string_bytes t ≡ detailed_as details) }
-{
-    let [a, b, c, d] = details;
-    format!(in heap; "{a}\t{b}\t{c}\t{d}\n")
-}
+impl<'a> fmt::Display for Told<'a> {
+    ghost output = { λ told. Some (refusal_line told.0.now) };
 
-// The line of the report that tells the refusal.
-fn refusal_line(heap: Global, fault: &Fault) -> Result<String, AllocError>
-    ensures { IfOk result (λ t. string_bytes t ≡ refusal_line fault.now) }
-{
-    let mut told = placed(heap, fault.refusal.number(), word(fault.sheet), fault.line)?;
-    let details = detailed(heap, fault.refusal.details())?;
-    told.push_str(details.as_str())?;
-    Ok(told)
+    fn fmt<W: fmt::Write>(&self, f: &mut fmt::Formatter<W>) -> fmt::Result {
+        let number = self.0.refusal.number();
+        let sheet = word(self.0.sheet);
+        let line = self.0.line;
+        let [a, b, c, d] = self.0.refusal.details();
+        writeln!(f, "NO\t{number}\t{sheet}\t{line}\t{a}\t{b}\t{c}\t{d}")
+    }
 }
 
 // Whether the faulty line is shown: not where the sheet as a whole is at fault, nor where the line cannot be shown.
@@ -54,16 +47,17 @@ fn shows_line(refusal: &Refusal) -> bool
 }
 
 // The line that is shown with a refusal, where there is one.
-fn line_for<'a>(depot: &'a [u8], plan: &'a [u8], fault: &Fault) -> Option<&'a [u8]>
-    ensures { option_map (λ x. x.now) result ≡ line_for depot.now plan.now fault.now }
+fn line_for<'a>(sheets: &Sheets<'a>, fault: &Fault) -> Option<&'a [u8]>
+    ensures { option_map (λ x. x.now) result ≡ line_for sheets.now.depot.now sheets.now.plan.now fault.now }
 {
     if shows_line(&fault.refusal) {
-        line(depot, plan, fault)
+        sheets.line(fault)
     } else {
         None
     }
 }
 
+// The faulty line as it is shown: its bytes need not be text.
 fn push_line(report: &mut Vec<u8>, text: &[u8]) -> Result<(), AllocError>
     ensures { OnOk result (report.new.items ≡ report.old.items ++ shown_as (Some text.now)) }
 {
@@ -74,21 +68,12 @@ fn push_line(report: &mut Vec<u8>, text: &[u8]) -> Result<(), AllocError>
 }
 
 // The report of a refusal: what is told of it and, where one is at fault, the line.
-pub fn refusal_report(
-    heap: Global,
-    depot: &[u8],
-    plan: &[u8],
-    fault: &Fault,
-) -> Result<Vec<u8>, AllocError>
-    ensures { IfOk result (λ v. v.items ≡ refusal_report depot.now plan.now fault.now) }
+pub fn refusal_report(heap: Global, sheets: &Sheets, fault: &Fault) -> Result<Vec<u8>, AllocError>
+    ensures { IfOk result (λ v. v.items ≡ refusal_report sheets.now.depot.now sheets.now.plan.now fault.now) }
 {
-    let told = refusal_line(heap, fault)?;
-    let mut report = Vec::from_slice(heap, told.as_bytes())?;
-    match line_for(depot, plan, fault) {
-        None => Ok(report),
-        Some(text) => {
-            push_line(&mut report, text)?;
-            Ok(report)
-        }
+    let mut report = Told(fault).to_string(heap)?.into_bytes();
+    if let Some(text) = line_for(sheets, fault) {
+        push_line(&mut report, text)?;
     }
+    Ok(report)
 }

@@ -2,15 +2,18 @@
 #![tactic(auto)]
 
 use reports::layout_report::layout_report;
+use sheets::faulty_line::Sheets;
 use sheets::layout::DEPOT_LIMIT;
 use std::fs::File;
 use std::io;
 use std::io::{ErrorKind, Read, Write};
+use std::rt::Files;
 
+// The most bytes of a plan.
 const PLAN_LIMIT: usize = 16384;
 
 // A file's bytes, one past the limit at the most, since that is enough to tell that it is over.
-fn read_up_to(rt: &HostRuntime, path: &str, limit: usize) -> io::Result<Vec<u8>> {
+fn read_up_to(rt: &(impl Files + AllocGlobal), path: &str, limit: usize) -> io::Result<Vec<u8>> {
     let mut bytes = Vec::new(rt.alloc());
     let file = File::open(rt, path)?;
     file.take((limit as u64).saturating_add(1))
@@ -19,19 +22,20 @@ fn read_up_to(rt: &HostRuntime, path: &str, limit: usize) -> io::Result<Vec<u8>>
 }
 
 // A sheet's bytes: none where its file cannot be opened or read.
-fn read_sheet(rt: &HostRuntime, path: &str, limit: usize) -> io::Result<Vec<u8>> {
-    match read_up_to(rt, path, limit) {
-        Ok(bytes) => Ok(bytes),
-        Err(error) => match error.kind() {
-            ErrorKind::OutOfMemory => Err(error),
-            _ => Ok(Vec::new(rt.alloc())),
-        },
-    }
+fn read_sheet(rt: &(impl Files + AllocGlobal), path: &str, limit: usize) -> io::Result<Vec<u8>> {
+    read_up_to(rt, path, limit).or_else(|error| match error.kind() {
+        ErrorKind::OutOfMemory => Err(error),
+        _ => Ok(Vec::new(rt.alloc())),
+    })
 }
 
 fn main(rt: HostRuntime) -> io::Result<()> {
     let depot = read_sheet(&rt, "depot.tsv", DEPOT_LIMIT)?;
     let plan = read_sheet(&rt, "plan.tsv", PLAN_LIMIT)?;
-    let report = layout_report(rt.alloc(), &depot, &plan)?;
+    let sheets = Sheets {
+        depot: &depot,
+        plan: &plan,
+    };
+    let report = layout_report(rt.alloc(), &sheets)?;
     rt.stdout().write_all(&report)
 }

@@ -10,7 +10,7 @@ use Rattle.sheets.specs.Layout.{fields, legible, letter_on, LayoutFault, after, 
 use Rattle.sheets.specs.Letters.{fields_of, may_come, MayCome, permitted}
 use Rattle.sheets.specs.Lines.{Line}
 use Rattle.sheets.specs.Refusals.{rank_of}
-use Rattle.sheets.proofs.Places.{same_some}
+use Rattle.std.proofs.lemmas.Option.{same_Some}
 use Rattle.sheets.proofs.Table.{table-agrees}
 
 pub no_later_itself : (xs : List ℕ) → NoLater xs xs
@@ -23,7 +23,7 @@ permitted-is above sight None k is = absurd (let z : ◌≡◌ {A = ℕ} 0 1 = c
 permitted-is above sight (Some l) k is =
     ⊎_elim
     (λ (may : may_come above sight l ≡ true).
-    let same : l ≡ k = same_some l k (sym (cond-true _ _ _ may) ∙ is) in
+    let same : l ≡ k = same_Some l k (sym (cond-true _ _ _ may) ∙ is) in
     (ap Some same, subst (MayCome above sight) same ((table-agrees above sight l).0 may)))
     (λ (not : may_come above sight l ≡ false). absurd (nothing (sym (cond-false _ _ _ not) ∙ is)))
     (cases_Bool (may_come above sight l))
@@ -42,7 +42,7 @@ module _ (a : Above) (l : Line) (read : true ≡ legible l) (k : Letter) (let_th
   only-count : (w : Refusal) → LayoutFault a l w → (w ≡ FieldCount) × (length (fields l) ≡ fields_of k → ⊥)
   only-count w (inl f) = absurd (both_ways _ f.1 (sym read))
   only-count w (inr (inl f)) = absurd (f.1 k k_here k_may)
-  only-count w (inr (inr f)) = (f.0, subst (λ m. length (fields l) ≡ fields_of m → ⊥) (same_some f.1.0 k (sym f.1.1 ∙ k_here)) f.1.2)
+  only-count w (inr (inr f)) = (f.0, subst (λ m. length (fields l) ≡ fields_of m → ⊥) (same_Some f.1.0 k (sym f.1.1 ∙ k_here)) f.1.2)
 
   pub count-wrong : (n : ℕ) → n ≡ fields_of k → false ≡ eqb (length (fields l)) n → Lowest (LayoutFault a l) FieldCount
   count-wrong n asked other = record {

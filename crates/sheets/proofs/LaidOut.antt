@@ -1,6 +1,7 @@
 -- A walk over the lines of a depot sheet, which judges the layout of each. Assumes nothing.
-use Rattle.std.proofs.Common.{◌≡◌, ℕ, ◌+◌, ◌<◌, ◌≤◌, Bool, true, false, ◌||◌, List, [], ◌∷◌, ◌++◌, length, take, drop, Some, sym, refl, ap, ◌∙◌, subst, inl, inr, arith, length-drop}
+use Rattle.std.proofs.Common.{◌≡◌, ℕ, ◌+◌, ◌<◌, ◌≤◌, ◌||◌, List, [], ◌∷◌, ◌++◌, length, take, drop, Some, sym, refl, ap, ◌∙◌, subst, inl, inr, arith, length-drop}
 use Rattle.std.proofs.lemmas.List.{take_all}
+use Rattle.std.proofs.lemmas.List.Recursion.{or_push}
 use Rattle.sheets.specs.declared.faults.Fault.{Fault}
 use Rattle.sheets.specs.declared.faults.Sheet.TheVariants.{Depot}
 use Rattle.sheets.specs.declared.layout.Above.{Above}
@@ -13,20 +14,13 @@ use Rattle.sheets.specs.Layout.{depot_limit, letter_on, says_sight, last_letter,
 use Rattle.sheets.specs.Lines.{Line, lines_of}
 use Rattle.sheets.specs.Refusals.{number_of, rank_of}
 use Rattle.sheets.proofs.Judged.{goes_on}
-use Rattle.sheets.proofs.Places.{nth_here, drop-next, take_next, nth_within}
+use Rattle.std.proofs.lemmas.Option.{slice_get_within}
+use Rattle.sheets.proofs.Places.{nth_here, drop-next, take_next}
 use Rattle.sheets.proofs.Sheetwise.{Late, Clear, clear_none, clear-more, line_refused, end_refused, end-right}
 
 -- what is wrong with a line, below the lines above it
 abbrev pub Wrong : List Line → Line → Refusal → Type 0
 Wrong above = LayoutFault (above_of above)
-
-or_false : (t : Bool) → (t || false) ≡ t
-or_false true = refl
-or_false false = refl
-
-or_assoc : (x y z : Bool) → ((x || y) || z) ≡ (x || (y || z))
-or_assoc true y z = refl
-or_assoc false y z = refl
 
 last-push : (ls : List Line) (l : Line) → last_letter (ls ++ l ∷ []) ≡ letter_on l
 last-push [] l = refl
@@ -34,8 +28,7 @@ last-push (m ∷ []) l = refl
 last-push (m ∷ n ∷ ls) l = last-push (n ∷ ls) l
 
 sight_push : (ls : List Line) (l : Line) → is_sight (ls ++ l ∷ []) ≡ (is_sight ls || says_sight l)
-sight_push [] l = or_false (says_sight l)
-sight_push (m ∷ ls) l = ap (λ t. says_sight m || t) (sight_push ls l) ∙ sym (or_assoc (says_sight m) (is_sight ls) (says_sight l))
+sight_push = or_push is_sight says_sight refl (λ l ls. refl)
 
 above-push : (ls : List Line) (l : Line) → above_of (ls ++ l ∷ []) ≡ after (above_of ls) l
 above-push ls l = let a = last-push ls l in let b = sight_push ls l in cc
@@ -68,10 +61,9 @@ pub record Walked (s rest : List ℕ) (n : ℕ) (a : Above) : Type 0 where
   pub seen : a ≡ above_of (take n (lines_of s))
   pub clear : Clear Wrong (lines_of s) n
   pub within : n ≤ length (lines_of s)
-  pub bytes : n + length rest ≤ length s
 
 pub begun : (s : List ℕ) (a : Above) → a ≡ above_of [] → Walked s s 0 a
-begun s a is = record { left = refl; seen = is; clear = clear_none Wrong (lines_of s); within = omega arith; bytes = omega arith }
+begun s a is = record { left = refl; seen = is; clear = clear_none Wrong (lines_of s); within = omega arith }
 
 module _ (s rest : List ℕ) (n : ℕ) (a : Above) (walked : Walked s rest n a) where
   -- one line more
@@ -79,13 +71,12 @@ module _ (s rest : List ℕ) (n : ℕ) (a : Above) (walked : Walked s rest n a) 
     here : drop n (lines_of s) ≡ l ∷ lines_of below
     here = walked.left ∙ next
 
-    pub walk-on : (b : Above) → length below < length rest → ((w : Refusal) → LayoutFault a l w → ⊥) → b ≡ after a l → Walked s below (n + 1) b
-    walk-on b shorter right is = record {
+    pub walk-on : (b : Above) → ((w : Refusal) → LayoutFault a l w → ⊥) → b ≡ after a l → Walked s below (n + 1) b
+    walk-on b right is = record {
       left = drop-next (lines_of s) n l (lines_of below) here;
       seen = is ∙ ap (λ x. after x l) walked.seen ∙ sym (above-push (take n (lines_of s)) l) ∙ ap above_of (sym (take_next (lines_of s) n l (lines_of below) here));
       clear = clear-more Wrong (lines_of s) n l (nth_here (lines_of s) n l (lines_of below) here) walked.clear (λ w f. right w (subst (λ x. LayoutFault x l w) (sym walked.seen) f));
-      within = omega (arith, nth_within (lines_of s) n l (nth_here (lines_of s) n l (lines_of below) here));
-      bytes = omega (arith, walked.bytes);
+      within = omega (arith, slice_get_within (lines_of s) n l (nth_here (lines_of s) n l (lines_of below) here));
     }
 
     pub stopped : (w : Refusal) → length s ≤ depot_limit → Lowest (LayoutFault a l) w → LayoutRefused s (n + 1) w
@@ -107,8 +98,8 @@ module _ (s rest : List ℕ) (n : ℕ) (a : Above) (walked : Walked s rest n a) 
     pub ends_with_goal : a.letter ≡ Some Goal → LaidOut s
     ends_with_goal is = end-right depot_limit Wrong Unfinished late s few clear-all (λ v f. f.1 (sym letter_is ∙ is))
 
-    pub ends_without_goal : (a.letter ≡ Some Goal → ⊥) → LayoutRefused s n NoGoal
-    ends_without_goal not = subst (λ i. LayoutRefused s i NoGoal) (sym all) (end_refused depot_limit Wrong Unfinished late s few clear-all NoGoal (refl, λ is. not (letter_is ∙ is)) (λ v f. f.0))
+    pub ends_without_goal : (a.letter ≡ Some Goal → ⊥) → LayoutRefused s (length (lines_of s)) NoGoal
+    ends_without_goal not = (end_refused depot_limit Wrong Unfinished late s few clear-all NoGoal (refl, λ is. not (letter_is ∙ is)) (λ v f. f.0))
 
 -- a refusal as a fault tells it
 pub told : (s : List ℕ) (f : Fault) (n : ℕ) (w : Refusal) → f.sheet ≡ Some Depot → f.line ≡ n → f.refusal ≡ w → LayoutRefused s n w → (f.sheet ≡ Some Depot) × LayoutRefused s f.line f.refusal

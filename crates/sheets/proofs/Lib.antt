@@ -1,4 +1,3 @@
-pub mod Bytewise
 pub mod Cuts
 pub mod Judged
 pub mod LaidOut

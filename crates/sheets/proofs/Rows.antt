@@ -1,12 +1,12 @@
 -- How a sheet's lines come one after the other. Assumes nothing.
-use Rattle.std.proofs.Common.{◌≡◌, ℕ, zero, suc, ◌+◌, ◌-◌, ◌<◌, ◌≤◌, true, false, List, [], ◌∷◌, length, drop, Some, None, sym, refl, ap, ◌∙◌, sub-one, arith, length-drop}
+use Rattle.std.proofs.Common.{◌≡◌, ℕ, zero, suc, ◌+◌, ◌<◌, ◌≤◌, true, false, eqb, List, [], ◌∷◌, length, sym, refl, ap, ◌∙◌, arith}
 use Rattle.std.specs.Option.{option_map}
 use Rattle.std.specs.List.{slice_get, join_with_byte}
+use Rattle.std.proofs.lemmas.List.Splits.{length-slice_split}
+use Rattle.std.proofs.lemmas.List.Sums.{count_by-le-length}
 use Rattle.std.proofs.lemmas.List.{nil_from_length}
-use Rattle.sheets.specs.Lines.{Line, line_end, unfinished, as_lines, lines_of, line_at}
+use Rattle.sheets.specs.Lines.{line_end, unfinished, as_lines, lines_of, line_at}
 use Rattle.sheets.specs.Pieces.{pieces}
-use Rattle.std.proofs.lemmas.Option.{slice_get_past}
-use Rattle.sheets.proofs.Places.{nth_here, drop-next}
 use Rattle.sheets.proofs.Cuts.{some-piece, rejoined_pieces}
 
 pub no_lines : (s : List ℕ) → length s ≡ 0 → lines_of s ≡ []
@@ -30,22 +30,17 @@ line-unfinished s p some cut =
     by_text [] some = absurd (omega arith)
     by_text (b ∷ p) some = refl
 
--- the line with a number, as a walk past the lines before it comes to it
-module _ (s : List ℕ) where
-  numbered : (n : ℕ) → 0 < n → line_at s n ≡ option_map (λ l. l.text) (slice_get (lines_of s) (n - 1))
-  numbered zero some = absurd (omega arith)
-  numbered (suc n) some = rw sub-one
+-- a sheet has no more lines than bytes and one
+pub few_lines : (s : List ℕ) → length (lines_of s) ≤ length s + 1
+few_lines s = omega (arith, as_many (pieces line_end s), length-slice_split (λ b. eqb b line_end) s, count_by-le-length (λ b. eqb b line_end) s)
+  where
+    as_many : (ps : List (List ℕ)) → length (as_lines ps) ≤ length ps
+    as_many [] = omega arith
+    as_many ([] ∷ []) = omega arith
+    as_many ((b ∷ p) ∷ []) = omega arith
+    as_many (p ∷ q ∷ ps) = omega (arith, as_many (q ∷ ps))
 
-  pub line-here : (n : ℕ) (rest : List ℕ) (l : Line) (ls : List Line) → 0 < n → lines_of rest ≡ drop (n - 1) (lines_of s) → lines_of rest ≡ l ∷ ls → Some l.text ≡ line_at s n
-  line-here n rest l ls some walked first =
-      sym (numbered n some ∙ ap (option_map (λ l. l.text)) (nth_here (lines_of s) (n - 1) l ls (sym walked ∙ first)))
-
-  pub line-past : (n i : ℕ) (rest : List ℕ) → 0 < n → i ≤ n → lines_of rest ≡ drop (i - 1) (lines_of s) → lines_of rest ≡ [] → None ≡ line_at s n
-  line-past n i rest some within walked none =
-      let past : length (lines_of s) ≤ n - 1 = omega (arith, length-drop (i - 1) (lines_of s), ap length (sym walked ∙ none)) in
-      sym (numbered n some ∙ ap (option_map (λ l. l.text)) (slice_get_past (lines_of s) (n - 1) past))
-
-  pub line-passed : (i : ℕ) (rest after : List ℕ) (l : Line) → 1 ≤ i → lines_of rest ≡ drop (i - 1) (lines_of s) → lines_of rest ≡ l ∷ lines_of after → lines_of after ≡ drop (i + 1 - 1) (lines_of s)
-  line-passed i rest after l some walked first =
-      let on : i - 1 + 1 ≡ i + 1 - 1 = omega arith in
-      rw on at (sym (drop-next (lines_of s) (i - 1) l (lines_of after) (sym walked ∙ first)))
+-- the line with a number stands at the index below it
+pub line-numbered : (s : List ℕ) (n i : ℕ) → n ≡ i + 1 → line_at s n ≡ option_map (λ l. l.text) (slice_get (lines_of s) i)
+line-numbered s zero i is = absurd (omega arith)
+line-numbered s (suc n) i is = let same : n ≡ i = omega arith in ap (λ k. option_map (λ l. l.text) (slice_get (lines_of s) k)) same

@@ -9,7 +9,7 @@ use Rattle.sheets.specs.Faults.SheetFault.{over, line, end}
 use Rattle.sheets.specs.Lines.{Line, lines_of}
 use Rattle.sheets.specs.Refusals.{rank_of}
 use Rattle.sheets.proofs.Judged.{no_later_itself}
-use Rattle.sheets.proofs.Places.{nth_within, same_some}
+use Rattle.std.proofs.lemmas.Option.{slice_get_within, same_Some}
 
 -- what is wrong with the whole is told after what is wrong with its size or with a line
 pub record Late (Wrong : List Line → Line → Refusal → Type 0) (Lacking : List Line → Refusal → Type 0) : Type 0 where
@@ -29,7 +29,7 @@ clear-more Wrong ls n l is clear right k m below here w f =
     (λ (under : k < n). clear k m under here w f)
     (λ (at : n ≤ k).
     let same : k ≡ n = omega arith in
-    let line : m ≡ l = same_some m l (sym here ∙ ap (slice_get ls) same ∙ is) in
+    let line : m ≡ l = same_Some m l (sym here ∙ ap (slice_get ls) same ∙ is) in
     right w (subst (λ x. Wrong (take n ls) x w) line (subst (λ i. Wrong (take i ls) m w) same f)))
     (cases_lt k n)
 
@@ -53,14 +53,14 @@ module _ (limit : ℕ) (Wrong : List Line → Line → Refusal → Type 0) (Lack
         by_line k m v is f =
             ⊎_elim
             (λ (same : n ≡ k).
-            let one : m ≡ l = same_some m l (sym is ∙ ap (slice_get (lines_of s)) (sym same) ∙ here) in
+            let one : m ≡ l = same_Some m l (sym is ∙ ap (slice_get (lines_of s)) (sym same) ∙ here) in
             inr (ap (λ i. i + 1) same, low.first v (subst (λ x. Wrong (take n (lines_of s)) x v) one (subst (λ i. Wrong (take i (lines_of s)) m v) (sym same) f))))
             (λ x. ⊎_elim (λ (later : n < k). inl (omega arith)) (λ (before : k < n). absurd (clear k m before is v f)) x)
             (cases_order n k)
 
         at-end : (m : ℕ) (v : Refusal) → m ≡ length (lines_of s) → Lacking (lines_of s) v → NoLater ((n + 1) ∷ rank_of w) (m ∷ rank_of v)
         at-end m v count f =
-            let within = nth_within (lines_of s) n l here in
+            let within = slice_get_within (lines_of s) n l here in
             ⊎_elim (λ (more : n + 1 < m). inl more) (λ (last : m ≤ n + 1). inr (omega arith, late.lines (take n (lines_of s)) l w low.holds (lines_of s) v f)) (cases_lt (n + 1) m)
 
         by_fault : (m : ℕ) (v : Refusal) → SheetFault limit Wrong Lacking s m v → NoLater ((n + 1) ∷ rank_of w) (m ∷ rank_of v)
@@ -72,7 +72,7 @@ module _ (limit : ℕ) (Wrong : List Line → Line → Refusal → Type 0) (Lack
       -- only the end can be wrong
       at-the_end : (m : ℕ) (v : Refusal) → SheetFault limit Wrong Lacking s m v → (m ≡ length (lines_of s)) × Lacking (lines_of s) v
       at-the_end _ _ (over more) = absurd (omega arith)
-      at-the_end _ v (line k l is f) = absurd (clear k l (nth_within (lines_of s) k l is) is v f)
+      at-the_end _ v (line k l is f) = absurd (clear k l (slice_get_within (lines_of s) k l is) is v f)
       at-the_end _ v (end f) = (refl, f)
 
       pub end_refused : (w : Refusal) → Lacking (lines_of s) w → ((v : Refusal) → Lacking (lines_of s) v → v ≡ w) → SheetRefused limit Wrong Lacking s (length (lines_of s)) w

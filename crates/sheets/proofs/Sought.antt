@@ -1,29 +1,23 @@
 -- A search for the first element that passes a test. Assumes nothing.
-use Rattle.std.proofs.Common.{◌≡◌, ℕ, suc, ◌+◌, ◌<◌, ◌≤◌, Bool, true, false, cond, List, [], ◌∷◌, map, length, get_or, drop, Some, None, sym, refl, ap, ◌∙◌, add-zero, add_assoc, arith}
+use Rattle.std.proofs.Common.{◌≡◌, ℕ, suc, ◌+◌, Bool, true, false, not, ltb, cond, List, [], ◌∷◌, map, length, get_or, Some, None, sym, refl, ap, ◌∙◌, add-zero, arith}
 use Rattle.std.specs.Str.{bytes_eq}
 use Rattle.std.proofs.lemmas.Slice.Eq.{bytes_eq-Decides}
-use Rattle.std.proofs.lemmas.List.{at_drop_more, at_drop_all}
-use Rattle.std.proofs.lemmas.Bool.{cond-true, cond-false}
+use Rattle.std.specs.List.{position_or_len}
+use Rattle.std.proofs.lemmas.Bool.{cond_below}
+use Rattle.std.proofs.lemmas.Bool.Decides.{nat_tests}
 use Rattle.sheets.specs.Listed.{first_from, place_of}
 
--- the elements from i on have the answer, since none before them passes
-abbrev pub Sought : {X : Type 0} → (X → Bool) → ℕ → List X → ℕ → Type 0
-Sought test n xs i = first_from test (n + i) (drop i xs) ≡ first_from test n xs
-
-pub sought_none : {X : Type 0} (test : X → Bool) (n : ℕ) (xs : List X) → Sought test n xs 0
-sought_none test n xs = ap (λ k. first_from test k xs) (add-zero n)
-
-module _ {X : Type 0} (test : X → Bool) (n : ℕ) (xs : List X) (i : ℕ) (sofar : Sought test n xs i) where
-  pub sought_here : (x : X) → i < length xs → x ≡ get_or xs i x → test x ≡ true → Some (n + i) ≡ first_from test n xs
-  sought_here x within here passes =
-      sym (at_drop_more (first_from test (n + i)) xs i x within ∙ cond-true _ _ _ (sym (ap test here) ∙ passes)) ∙ sofar
-
-  pub sought_more : (x : X) → i < length xs → x ≡ get_or xs i x → test x ≡ false → Sought test n xs (i + 1)
-  sought_more x within here fails =
-      ap (λ k. first_from test k (drop (i + 1) xs)) (sym (add_assoc n i 1)) ∙ sym (at_drop_more (first_from test (n + i)) xs i x within ∙ cond-false _ _ _ (sym (ap test here) ∙ fails)) ∙ sofar
-
-  pub sought_all : length xs ≤ i → None ≡ first_from test n xs
-  sought_all end = sym (at_drop_all (first_from test (n + i)) xs i end) ∙ sofar
+-- the search answers as the library's `position` does
+pub first_from-position : {X : Type 0} (test : X → Bool) (n : ℕ) (xs : List X) → first_from test n xs ≡ cond (ltb (position_or_len test xs) (length xs)) (Some (n + position_or_len test xs)) None
+first_from-position test n [] = refl
+first_from-position test n (x ∷ xs) = by_first (test x) (first_from-position test (n + 1) xs)
+  where
+    by_first : (t : Bool) → first_from test (n + 1) xs ≡ cond (ltb (position_or_len test xs) (length xs)) (Some (n + 1 + position_or_len test xs)) None → cond t (Some n) (first_from test (n + 1) xs) ≡ cond (ltb (cond (not t) (1 + position_or_len test xs) 0) (suc (length xs))) (Some (n + cond (not t) (1 + position_or_len test xs) 0)) None
+    by_first true later = ap Some (sym (add-zero n)) ∙ cond_below 0 (suc (length xs)) (Some (n + 0)) None (omega arith)
+    by_first false later =
+        let at : n + 1 + position_or_len test xs ≡ n + (1 + position_or_len test xs) = omega arith in
+        let within : ltb (position_or_len test xs) (length xs) ≡ ltb (1 + position_or_len test xs) (suc (length xs)) = grind (arith, nat_tests) in
+        rw (at, within) at later
 
 -- to look for an element by what is made of it is to look among what is made
 pub first_from-map : {X Y : Type 0} (test : Y → Bool) (f : X → Y) (n : ℕ) (xs : List X) → first_from (λ x. test (f x)) n xs ≡ first_from test n (map f xs)

@@ -1,11 +1,11 @@
 -- The lines of a sheet are the sheet, cut at its line ends. Assumes nothing.
 use Rattle.std.proofs.Common.{◌≡◌, ℕ, zero, suc, true, eqb, List, [], ◌∷◌, ◌++◌, refl, ap, ◌∙◌, append_assoc, append-nil, arith}
-use Rattle.std.specs.List.{flat_map, join_with_byte, AllByRecursion}
+use Rattle.std.specs.List.{flat_map, join_with_byte, onto_first, AllByRecursion}
 use Rattle.std.specs.Str.Iter.{LacksByte}
 use Rattle.std.proofs.lemmas.Bool.{cond_both, eqb-false}
 use Rattle.sheets.specs.Laws.{as_written, EndsInOrder, LinesSplit}
 use Rattle.sheets.specs.Lines.{Line, line_end, as_lines}
-use Rattle.sheets.specs.Pieces.{pieces, longer}
+use Rattle.sheets.specs.Pieces.{pieces}
 use Rattle.sheets.proofs.Cuts.{rejoined_pieces}
 
 lacks_none : (mark : ℕ) → LacksByte mark []
@@ -15,14 +15,14 @@ lacks_more : (mark b : ℕ) (bs : List ℕ) → (b ≡ mark → ⊥) → LacksBy
 lacks_more mark b bs other rest zero within same = other same
 lacks_more mark b bs other rest (suc k) within same = rest k (omega arith) same
 
-longer-lack : (mark b : ℕ) (ps : List (List ℕ)) → (b ≡ mark → ⊥) → AllByRecursion (LacksByte mark) ps → AllByRecursion (LacksByte mark) (longer b ps)
-longer-lack mark b [] other all = (lacks_more mark b [] other (lacks_none mark), tt)
-longer-lack mark b (p ∷ ps) other all = (lacks_more mark b p other all.0, all.1)
+onto_first-lack : (mark b : ℕ) (ps : List (List ℕ)) → (b ≡ mark → ⊥) → AllByRecursion (LacksByte mark) ps → AllByRecursion (LacksByte mark) (onto_first b ps)
+onto_first-lack mark b [] other all = (lacks_more mark b [] other (lacks_none mark), tt)
+onto_first-lack mark b (p ∷ ps) other all = (lacks_more mark b p other all.0, all.1)
 
 pieces-lack : (mark : ℕ) (bs : List ℕ) → AllByRecursion (LacksByte mark) (pieces mark bs)
 pieces-lack mark [] = (lacks_none mark, tt)
 pieces-lack mark (b ∷ bs) =
-    cond_both (eqb b mark) _ _ (AllByRecursion (LacksByte mark)) (λ _. (lacks_none mark, pieces-lack mark bs)) (λ other. longer-lack mark b (pieces mark bs) (eqb-false b mark other) (pieces-lack mark bs))
+    cond_both (eqb b mark) _ _ (AllByRecursion (LacksByte mark)) (λ _. (lacks_none mark, pieces-lack mark bs)) (λ other. onto_first-lack mark b (pieces mark bs) (eqb-false b mark other) (pieces-lack mark bs))
 
 lines_lack : (ps : List (List ℕ)) → AllByRecursion (LacksByte line_end) ps → AllByRecursion (λ l. LacksByte line_end l.text) (as_lines ps)
 lines_lack [] all = tt

@@ -1,7 +1,7 @@
 -- Tests of bytes. Assumes nothing.
-use Rattle.std.specs.Prelude.{ℕ, Bool, true, ◌&&◌, List, [], ◌∷◌}
+use Rattle.std.specs.Prelude.{ℕ, Bool, List}
+use Rattle.std.specs.List.{list_all}
 
 -- Every byte of a text passes a test.
 abbrev pub every : (ℕ → Bool) → List ℕ → Bool
-every test [] = true
-every test (b ∷ bs) = test b && every test bs
+every = list_all

@@ -1,5 +1,6 @@
 -- How a depot sheet is laid out: its bytes, letters and numbers of fields. Assumes nothing.
 use Rattle.std.specs.Prelude.{◌≡◌, ℕ, Bool, false, ◌&&◌, ◌||◌, ◌⊎◌, List, [], ◌∷◌, length, Some, None, codes, Option, ◌==◌, ◌≢◌, nat_le, slice_index_or}
+use Rattle.std.specs.List.{list_any}
 use Rattle.std.specs.Str.{bytes_eq}
 use Rattle.sheets.specs.declared.layout.Above.{Above}
 use Rattle.sheets.specs.declared.letters.Letter.{Letter}
@@ -55,8 +56,7 @@ says_sight l = bytes_eq l.text (codes "K\tsight")
 
 -- A sheet is of the sight kind if one of its lines says so. Only the first can, since the kind is named nowhere else.
 abbrev pub is_sight : List Line → Bool
-is_sight [] = false
-is_sight (l ∷ ls) = says_sight l || is_sight ls
+is_sight = list_any says_sight
 
 -- What the lines above say of the next: the letter right above it, and whether the sheet is of the sight kind.
 abbrev pub above_of : List Line → Above

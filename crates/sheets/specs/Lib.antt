@@ -8,3 +8,4 @@ pub mod Listed
 pub mod Names
 pub mod Pieces
 pub mod Refusals
+pub mod Rest

@@ -1,11 +1,6 @@
 -- What is listed, and the place where it stands first. Assumes nothing.
-use Rattle.std.specs.Prelude.{ℕ, ◌+◌, Bool, cond, List, [], ◌∷◌, Some, None, vec_items, Option}
+use Rattle.std.specs.Prelude.{ℕ, ◌+◌, Bool, cond, List, [], ◌∷◌, Some, None, Option}
 use Rattle.std.specs.Str.{bytes_eq}
-use Rattle.sheets.specs.declared.listed.Name.{Name}
-
--- The text of a listed name.
-abbrev pub text_of : Name → List ℕ
-text_of n = vec_items n.text
 
 -- The place of the first element that passes a test, where the places count from n.
 abbrev pub first_from : {X : Type 0} → (X → Bool) → ℕ → List X → Option ℕ

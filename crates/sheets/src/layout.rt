@@ -2,17 +2,17 @@
 ghost use Rattle.std.specs.Prelude.{◌≡◌, ◌||◌, [], Some, Decides, MatchResult};
 ghost use Rattle.sheets.specs.declared.faults.Sheet.TheVariants.{Depot};
 ghost use Rattle.sheets.specs.declared.letters.Letter.TheVariants.{Goal};
+ghost use Rattle.sheets.specs.Bytes.{every};
 ghost use Rattle.sheets.specs.Faults.{Lowest};
 ghost use Rattle.sheets.specs.Layout.{allowed, legible, letter_on, says_sight, above_of, after, LayoutFault, LayoutRefused, LaidOut};
 ghost use Rattle.sheets.specs.Letters.{permitted};
 ghost use Rattle.sheets.specs.Lines.{shown};
 
-use crate::bytes::ByteTest;
 use crate::faults::{Fault, Sheet};
 use crate::letters::{Letter, letter_here};
-use crate::lines::{Line, first_line};
+use crate::lines::{Line, Lines};
+use crate::pieces;
 use crate::refusals::Refusal;
-use crate::{bytes, pieces};
 
 // The most bytes of a depot sheet, and of a line before its end.
 pub const DEPOT_LIMIT: usize = 32768;
@@ -28,29 +28,25 @@ pub struct Above {
     pub sight: bool,
 }
 
-// The bytes that a line may have: tabs between its fields, and 33 to 126.
-struct AllowedByte {}
-
-impl ByteTest for AllowedByte {
-    ghost passing = { allowed };
-
-    fn passes(b: u8) -> bool {
-        b == TAB || 33 <= b && b <= 126
-    }
+// Whether a text has only bytes that a line may have: tabs between its fields, and 33 to 126.
+fn has_allowed_bytes(text: &[u8]) -> bool
+    ensures { result ≡ every allowed text.now }
+{
+    text.iter().all(|b| matches!(b, b'\t' | 33..=126))
 }
 
 // Whether a line has its end, is not too long and has no byte that is not allowed.
 pub fn is_legible(line: &Line) -> bool
     ensures { result ≡ legible (shown line.now) }
 {
-    line.ended && line.text.len() <= LINE_LIMIT && bytes::all_pass::<AllowedByte>(line.text)
+    line.ended && line.text.len() <= LINE_LIMIT && has_allowed_bytes(line.text)
 }
 
 // Whether a line says that the sheet is of the sight kind.
 pub fn says_sight(line: &Line) -> bool
     ensures { result ≡ says_sight (shown line.now) }
 {
-    bytes::same(line.text, b"K\tsight")
+    line.text == b"K\tsight".as_slice()
 }
 
 impl Above {
@@ -75,11 +71,10 @@ impl Above {
     fn letter_on(&self, line: &Line) -> Option<Letter>
         ensures { result ≡ permitted self.now.letter self.now.sight (letter_on (shown line.now)) }
     {
-        let (first, _) = pieces::cut(line.text, TAB);
-        if first.len() != 1 {
-            return None;
+        match pieces::cut(line.text, TAB) {
+            ([byte], _) => letter_here(*byte, self.letter, self.sight),
+            _ => None,
         }
-        letter_here(first[0], self.letter, self.sight)
     }
 
     // The letter of a line that is laid out as it should be, or the lowest thing that is wrong with its layout.
@@ -113,10 +108,8 @@ impl Above {
     pub fn judge(&self, line: &Line) -> Result<Above, Refusal>
         ensures { MatchResult result (λ next. ((w : Refusal) → LayoutFault self.now (shown line.now) w → ⊥) × (next ≡ after self.now (shown line.now))) (λ w. Lowest (LayoutFault self.now (shown line.now)) w) }
     {
-        match self.judge_letter(line) {
-            Ok(letter) => Ok(self.below(line, letter)),
-            Err(refusal) => Err(refusal),
-        }
+        let letter = self.judge_letter(line)?;
+        Ok(self.below(line, letter))
     }
 }
 
@@ -128,17 +121,17 @@ pub fn judge_layout(sheet: &[u8]) -> Result<(), Fault>
         return Err(Fault::on(Sheet::Depot, 0, Refusal::OverLimit));
     }
     let mut above = Above::nothing();
-    let mut count = 0;
-    let mut rest = sheet;
-    while let Some((line, below)) = first_line(rest) {
-        count += 1;
-        match above.judge(&line) {
-            Ok(next) => above = next,
-            Err(refusal) => return Err(Fault::on(Sheet::Depot, count, refusal)),
-        }
-        rest = below;
+    // The reader of whole sheets walks over the lines alike. One walk for both would be told what to do with a line by a
+    // closure that writes the depot, and its contract, a chain of all that the closure did, would be longer than this.
+    for (i, line) in Lines::of(sheet).enumerate() {
+        above = match above.judge(&line) {
+            Ok(next) => next,
+            // No `map_err`, whose closure could not add to the number.
+            Err(refusal) => return Err(Fault::on(Sheet::Depot, i + 1, refusal)),
+        };
     }
     if !above.is_goal() {
+        let count = Lines::of(sheet).count();
         return Err(Fault::on(Sheet::Depot, count, Refusal::NoGoal));
     }
     Ok(())

@@ -1,9 +1,9 @@
 // The letters that begin the lines of a depot sheet.
 ghost use Rattle.std.specs.Prelude.{◌≡◌, [], ◌∷◌};
-ghost use Rattle.sheets.specs.Letters.{order_of, fields_of, among, letter_of, permitted};
+ghost use Rattle.sheets.specs.Letters.{fields_of, among, letter_of, permitted};
 
 // What a line says, in the order in which the lines come.
-#[derive(Clone, Copy)]
+#[derive(Clone, Copy, PartialEq, Eq, PartialOrd, Ord)]
 pub enum Letter {
     // K: the kind of the sheet's facts
     Kind,
@@ -23,13 +23,14 @@ pub enum Letter {
     Goal,
 }
 
-impl Letter {
-    fn order(self) -> u8
-        ensures { result ≡ order_of self }
-    {
-        self as u8 + 1
-    }
+// Whether the line above has a letter from one to another, in their order.
+fn is_among(above: Option<Letter>, first: Letter, last: Letter) -> bool
+    ensures { result ≡ among above first last }
+{
+    above.is_some_and(|letter| first <= letter && letter <= last)
+}
 
+impl Letter {
     // How many fields a line with this letter has, the letter among them.
     pub fn fields(self) -> usize
         ensures { result ≡ fields_of self }
@@ -42,17 +43,9 @@ impl Letter {
     }
 }
 
-// Whether the line above has a letter from one to another, in their order.
-fn is_among(above: Option<Letter>, first: Letter, last: Letter) -> bool
-    ensures { result ≡ among above first last }
-{
-    match above {
-        None => false,
-        Some(letter) => first.order() <= letter.order() && letter.order() <= last.order(),
-    }
-}
-
-// The letter that a byte writes, if it may come below a line with the letter above.
+// The letter that a byte writes, if it may come below a line with the letter above. A match on the letters as they are
+// written, with guards for their order, is the form that the project has fixed for this place; what stands above comes as
+// two values, since the type that holds both stands on this one.
 pub fn letter_here(byte: u8, above: Option<Letter>, sight: bool) -> Option<Letter>
     ensures { result ≡ permitted above sight (letter_of (byte ∷ [])) }
 {

@@ -1,7 +1,6 @@
 // The sheets as text: their lines, fields and names, and what is told of a faulty one.
 #![tactic(auto)]
 
-pub mod bytes;
 pub mod faults;
 pub mod faulty_line;
 pub mod laws;

@@ -1,6 +1,8 @@
 // The lines of a sheet, one after the other. Only `first_line` and specs/Lines know what ends a line.
 ghost use Rattle.std.specs.Prelude.{◌≡◌, ◌<◌, [], ◌∷◌, length, MatchOption};
+ghost use Rattle.std.specs.Iterator.{YieldsFirstBy, item_count};
 ghost use Rattle.sheets.specs.Lines.{lines_of, shown};
+ghost use Rattle.sheets.specs.Rest.{lines_left};
 
 use crate::pieces;
 
@@ -9,6 +11,12 @@ use crate::pieces;
 pub struct Line<'a> {
     pub text: &'a [u8],
     pub ended: bool,
+}
+
+// The lines that are left of a sheet.
+#[derive(Clone, Copy)]
+pub struct Lines<'a> {
+    rest: &'a [u8],
 }
 
 const LINE_END: u8 = 10;
@@ -24,5 +32,28 @@ pub fn first_line<'a>(sheet: &'a [u8]) -> Option<(Line<'a>, &'a [u8])>
     match rest {
         Some(rest) => Some((Line { text, ended: true }, rest)),
         None => Some((Line { text, ended: false }, &[])),
+    }
+}
+
+impl<'a> Iterator for Lines<'a> {
+    type Item = Line<'a>;
+
+    ghost next_gives = { YieldsFirstBy shown lines_left };
+
+    ghost remaining = { item_count lines_left };
+
+    fn next(&mut self) -> Option<Line<'a>> {
+        let (line, rest) = first_line(self.rest)?;
+        self.rest = rest;
+        Some(line)
+    }
+}
+
+impl<'a> Lines<'a> {
+    // All lines of a sheet.
+    pub fn of(sheet: &'a [u8]) -> Lines<'a>
+        ensures { lines_left result ≡ lines_of sheet.now }
+    {
+        Lines { rest: sheet }
     }
 }

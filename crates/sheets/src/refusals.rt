@@ -1,6 +1,9 @@
 // Why a call says no. The promises about numbers and details go by `number_of` and `details_of` of specs/Refusals.
 ghost use Rattle.std.specs.Prelude.{◌≡◌};
+ghost use Rattle.sheets.specs.declared.refusals.Refusal.TheVariants.{NoMemory};
 ghost use Rattle.sheets.specs.Refusals.{number_of, details_of};
+
+use std::alloc::{AllocError, AllocFailed};
 
 // One case for each reason, with what it tells of the place. Fields of a line, places of a step, effects of a move
 // and parts of a move are counted as the rules count them: from 1, but for the part 0 that is a move's need.
@@ -71,8 +74,24 @@ pub enum Refusal {
     NoMemory,
 }
 
+impl From<AllocError> for Refusal {
+    ghost from_gives = { λ _ r. r ≡ NoMemory };
+
+    fn from(_: AllocError) -> Refusal {
+        Refusal::NoMemory
+    }
+}
+
+impl<T: Drop> From<AllocFailed<T>> for Refusal {
+    ghost from_gives = { λ _ r. r ≡ NoMemory };
+
+    fn from(_: AllocFailed<T>) -> Refusal {
+        Refusal::NoMemory
+    }
+}
+
 impl Refusal {
-    // The reason's number, as it is printed.
+    // The reason's number, as it is printed. The cases carry what they tell of the place, so no cast gives it.
     pub fn number(&self) -> u8
         ensures { result ≡ number_of self.now }
     {
@@ -105,13 +124,13 @@ impl Refusal {
         ensures { result ≡ details_of self.now }
     {
         match *self {
-            Refusal::NotItsForm { field } => [field, 0, 0, 0],
-            Refusal::NotListed { field } => [field, 0, 0, 0],
-            Refusal::Twice { field } => [field, 0, 0, 0],
-            Refusal::AlwaysTrue { field } => [field, 0, 0, 0],
-            Refusal::UnknownMove { place } => [place, 0, 0, 0],
-            Refusal::RepeatedMove { place } => [place, 0, 0, 0],
-            Refusal::NeedFalse { place } => [place, 0, 0, 0],
+            Refusal::NotItsForm { field }
+            | Refusal::NotListed { field }
+            | Refusal::Twice { field }
+            | Refusal::AlwaysTrue { field } => [field, 0, 0, 0],
+            Refusal::UnknownMove { place }
+            | Refusal::RepeatedMove { place }
+            | Refusal::NeedFalse { place } => [place, 0, 0, 0],
             Refusal::Contradictory {
                 setting_place,
                 setting_effect,

@@ -1,9 +1,8 @@
 -- How often numbers are in lists, and what a list of tests tells. Assumes nothing.
 use Rattle.std.proofs.Common.{◌≡◌, ℕ, suc, ◌+◌, ◌<◌, ◌≤◌, Bool, true, false, ◌||◌, eqb, ◌⊎◌, List, [], ◌∷◌, ◌++◌, length, sym, refl, ap, ◌∙◌, inl, inr, arith}
-use mathlib.Core.Bool.{or_assoc}
-use Rattle.std.specs.List.{flat_map, AllByRecursion}
+use Rattle.std.specs.List.{flat_map, AllByRecursion, list_any}
+use Rattle.std.proofs.lemmas.List.Folds.{list_any-append}
 use Rattle.std.proofs.lemmas.Bool.{cases_Bool, eqb-true, eq-eqb, or_cases, or_left, or_right, false≢true}
-use Rattle.walkthroughs.specs.Firing.{any}
 use Rattle.walkthroughs.specs.Lists.{one, times, SameMoves, Within}
 
 pub one-is : (x y : ℕ) → x ≡ y → one x y ≡ 1
@@ -49,34 +48,30 @@ pub all-from_times : (P : ℕ → Type 0) (a : List ℕ) → ((x : ℕ) → 0 < 
 all-from_times P [] h = tt
 all-from_times P (x ∷ a) h = (h x (omega (arith, one-is x x refl)), all-from_times P a (λ z k. h z (omega arith)))
 
-pub any_append : {X : Type 0} (p : X → Bool) (xs ys : List X) → any p (xs ++ ys) ≡ (any p xs || any p ys)
-any_append p [] ys = refl
-any_append p (x ∷ xs) ys = ap (λ b. p x || b) (any_append p xs ys) ∙ sym (or_assoc (p x) (any p xs) (any p ys))
-
-pub any-joined : {X Y : Type 0} (p : Y → Bool) (f : X → List Y) (xs : List X) → any p (flat_map f xs) ≡ any (λ x. any p (f x)) xs
+pub any-joined : {X Y : Type 0} (p : Y → Bool) (f : X → List Y) (xs : List X) → list_any p (flat_map f xs) ≡ list_any (λ x. list_any p (f x)) xs
 any-joined p f [] = refl
-any-joined p f (x ∷ xs) = any_append p (f x) (flat_map f xs) ∙ ap (λ b. any p (f x) || b) (any-joined p f xs)
+any-joined p f (x ∷ xs) = list_any-append p (f x) (flat_map f xs) ∙ ap (λ b. list_any p (f x) || b) (any-joined p f xs)
 
-pub any-weaker : {X : Type 0} (p q : X → Bool) → ((x : X) → p x ≡ true → q x ≡ true) → (xs : List X) → any p xs ≡ true → any q xs ≡ true
+pub any-weaker : {X : Type 0} (p q : X → Bool) → ((x : X) → p x ≡ true → q x ≡ true) → (xs : List X) → list_any p xs ≡ true → list_any q xs ≡ true
 any-weaker p q weaker [] h = h
-any-weaker p q weaker (x ∷ xs) h = elim (or_cases (p x) (any p xs) h) [ inl k ↦ or_left (q x) (any q xs) (weaker x k) | inr k ↦ or_right (q x) (any q xs) (any-weaker p q weaker xs k) ]
+any-weaker p q weaker (x ∷ xs) h = elim (or_cases (p x) (list_any p xs) h) [ inl k ↦ or_left (q x) (list_any q xs) (weaker x k) | inr k ↦ or_right (q x) (list_any q xs) (any-weaker p q weaker xs k) ]
 
 -- a number that passes, in the list
-pub any-find : (p : ℕ → Bool) (xs : List ℕ) → any p xs ≡ true → (x : ℕ) × (p x ≡ true) × (0 < times x xs)
+pub any-find : (p : ℕ → Bool) (xs : List ℕ) → list_any p xs ≡ true → (x : ℕ) × (p x ≡ true) × (0 < times x xs)
 any-find p [] h = absurd (false≢true h)
-any-find p (x ∷ xs) h = elim (or_cases (p x) (any p xs) h) [ inl k ↦ (x, k, omega (arith, one-is x x refl)) | inr k ↦ later (any-find p xs k) ]
+any-find p (x ∷ xs) h = elim (or_cases (p x) (list_any p xs) h) [ inl k ↦ (x, k, omega (arith, one-is x x refl)) | inr k ↦ later (any-find p xs k) ]
   where
     later : ((z : ℕ) × (p z ≡ true) × (0 < times z xs)) → (z : ℕ) × (p z ≡ true) × (0 < times z (x ∷ xs))
     later (z, yes', there) = (z, yes', omega arith)
 
-pub any_at : (p : ℕ → Bool) (x : ℕ) (xs : List ℕ) → p x ≡ true → 0 < times x xs → any p xs ≡ true
+pub any_at : (p : ℕ → Bool) (x : ℕ) (xs : List ℕ) → p x ≡ true → 0 < times x xs → list_any p xs ≡ true
 any_at p x [] h there = absurd (omega arith)
-any_at p x (y ∷ xs) h there = elim (one-cases x y) [ inl k ↦ or_left (p y) (any p xs) (rw k.0 at h) | inr k ↦ or_right (p y) (any p xs) (any_at p x xs h (omega arith)) ]
+any_at p x (y ∷ xs) h there = elim (one-cases x y) [ inl k ↦ or_left (p y) (list_any p xs) (rw k.0 at h) | inr k ↦ or_right (p y) (list_any p xs) (any_at p x xs h (omega arith)) ]
 
-pub any-within : (p : ℕ → Bool) (a b : List ℕ) → Within a b → any p a ≡ true → any p b ≡ true
+pub any-within : (p : ℕ → Bool) (a b : List ℕ) → Within a b → list_any p a ≡ true → list_any p b ≡ true
 any-within p a b w h = found (any-find p a h)
   where
-    found : ((x : ℕ) × (p x ≡ true) × (0 < times x a)) → any p b ≡ true
+    found : ((x : ℕ) × (p x ≡ true) × (0 < times x a)) → list_any p b ≡ true
     found (x, passes, there) = any_at p x b passes (omega (arith, w x))
 
 -- two tests that hold together are one

@@ -7,7 +7,8 @@ use Rattle.sheets.specs.Refusals.{number_of, rank_of}
 use Rattle.sheets.proofs.Single.{same_rank, same_rows}
 use Rattle.walkthroughs.specs.Depots.{Depot, State, Carrying, Listed, reads}
 use Rattle.walkthroughs.specs.Disturbance.{AlikeInEveryOrder, DisturbedBySet, move_at}
-use Rattle.walkthroughs.specs.Firing.{any, contradictory, fired, settings_at, strikes_at}
+use Rattle.std.specs.List.{list_any}
+use Rattle.walkthroughs.specs.Firing.{contradictory, fired, settings_at, strikes_at}
 use Rattle.walkthroughs.specs.Laws.{AcceptedUnlessFault, OneRefusal}
 use Rattle.walkthroughs.specs.Lists.{times}
 use Rattle.walkthroughs.specs.Steps.{Accepted, StepFault}
@@ -60,13 +61,13 @@ pub record ClashAt (d : Depot) (s : State) (moves : List ℕ) : Type 0 where
   pub fault : StepFault d s moves (Contradictory setting setting_effect strike strike_effect)
 
 pub clash-at : (d : Depot) (s : State) (moves : List ℕ) → contradictory d s moves ≡ true → ClashAt d s moves
-clash-at d s moves h = of-setting (fired-at d s (λ e. e.settings) (λ g. any (λ f. d.carries g f) (fired d s (λ e. e.strikes) moves)) moves h)
+clash-at d s moves h = of-setting (fired-at d s (λ e. e.settings) (λ g. list_any (λ f. d.carries g f) (fired d s (λ e. e.strikes) moves)) moves h)
   where
-    of-strike : (p e : ℕ) → Listed p (length moves) → FiredAt d s (λ e. e.strikes) (λ f. any (λ g. d.carries g f) (settings_at d s (move_at moves p) e)) moves → ClashAt d s moves
+    of-strike : (p e : ℕ) → Listed p (length moves) → FiredAt d s (λ e. e.strikes) (λ f. list_any (λ g. d.carries g f) (settings_at d s (move_at moves p) e)) moves → ClashAt d s moves
     of-strike p e placed b = record { setting = p; setting_effect = e; strike = b.place; strike_effect = b.effect; fault = (placed, b.placed, any_swap (λ f g. d.carries g f) (strikes_at d s (move_at moves b.place) b.effect) (settings_at d s (move_at moves p) e) b.here) }
 
-    of-setting : FiredAt d s (λ e. e.settings) (λ g. any (λ f. d.carries g f) (fired d s (λ e. e.strikes) moves)) moves → ClashAt d s moves
-    of-setting a = of-strike a.place a.effect a.placed (fired-at d s (λ e. e.strikes) (λ f. any (λ g. d.carries g f) (settings_at d s (move_at moves a.place) a.effect)) moves (any_swap (λ g f. d.carries g f) (settings_at d s (move_at moves a.place) a.effect) (fired d s (λ e. e.strikes) moves) a.here))
+    of-setting : FiredAt d s (λ e. e.settings) (λ g. list_any (λ f. d.carries g f) (fired d s (λ e. e.strikes) moves)) moves → ClashAt d s moves
+    of-setting a = of-strike a.place a.effect a.placed (fired-at d s (λ e. e.strikes) (λ f. list_any (λ g. d.carries g f) (settings_at d s (move_at moves a.place) a.effect)) moves (any_swap (λ g f. d.carries g f) (settings_at d s (move_at moves a.place) a.effect) (fired d s (λ e. e.strikes) moves) a.here))
 
 module _ (d : Depot) (s : State) (moves : List ℕ) (never : NoneBefore d s moves) where
   pub orderly : Orderly d s moves
@@ -129,7 +130,7 @@ module _ (d : Depot) (law : Carrying d) (s : State) (moves : List ℕ) where
       lacking p f = true≢false (sym (step.needs (move_at moves p) (times-at p moves f.0)) ∙ f.1)
 
       clashing : (p e q h : ℕ) → StepFault d s moves (Contradictory p e q h) → ⊥
-      clashing p e q h f = true≢false (sym (at-fired d s (λ x. x.settings) (λ g. any (λ y. d.carries g y) struck) moves p e refl f.0 (any-weaker (λ g. any (λ y. d.carries g y) (strikes_at d s (move_at moves q) h)) (λ g. any (λ y. d.carries g y) struck) (λ g. at-fired d s (λ x. x.strikes) (λ y. d.carries g y) moves q h refl f.1) (settings_at d s (move_at moves p) e) f.2)) ∙ step.agreed)
+      clashing p e q h f = true≢false (sym (at-fired d s (λ x. x.settings) (λ g. list_any (λ y. d.carries g y) struck) moves p e refl f.0 (any-weaker (λ g. list_any (λ y. d.carries g y) (strikes_at d s (move_at moves q) h)) (λ g. list_any (λ y. d.carries g y) struck) (λ g. at-fired d s (λ x. x.strikes) (λ y. d.carries g y) moves q h refl f.1) (settings_at d s (move_at moves p) e) f.2)) ∙ step.agreed)
         where
           struck : List ℕ
           struck = fired d s (λ x. x.strikes) moves

@@ -2,13 +2,14 @@
 use Rattle.std.proofs.Common.{◌≡◌, ℕ, suc, ◌<◌, Bool, true, false, cond, not, ◌&&◌, ◌||◌, List, [], ◌∷◌, ◌++◌, get_or, sym, refl, ap, ◌∙◌, inl, inr, arith}
 use mathlib.Core.Path.{fun_ext}
 use mathlib.Core.Bool.{and-true}
-use Rattle.std.specs.List.{flat_map, AllByRecursion}
+use Rattle.std.specs.List.{flat_map, AllByRecursion, list_any}
 use Rattle.std.proofs.lemmas.Bool.{cases_Bool, or_left, true≢false}
 use Rattle.walkthroughs.specs.Depots.{Depot, Effect, State, Carrying, move_of, truth_of, reads}
-use Rattle.walkthroughs.specs.Firing.{any, fires, fired_by, fired, adds, removes, after, clash, contradictory, one_by_one, Closed, start_of}
+use Rattle.walkthroughs.specs.Firing.{fires, fired_by, fired, adds, removes, after, clash, contradictory, one_by_one, Closed, start_of}
 use Rattle.walkthroughs.specs.Laws.{EffectsTakePlace, GroupsJoin, UnlistedStay}
 use Rattle.walkthroughs.specs.Lists.{SameMoves, Within, times}
-use Rattle.walkthroughs.proofs.Counts.{any_append, any_at, any-joined, any-weaker, any-within, same_bool}
+use Rattle.std.proofs.lemmas.List.Folds.{list_any-append}
+use Rattle.walkthroughs.proofs.Counts.{any_at, any-joined, any-weaker, any-within, same_bool}
 
 abbrev pub nothing : Effect
 nothing = record { condition = 0; settings = []; strikes = [] }
@@ -17,16 +18,16 @@ nothing = record { condition = 0; settings = []; strikes = [] }
 abbrev pub Alike : Depot → State → State → ℕ → Type 0
 Alike d s t m = (e : ℕ) → reads d t m e ≡ reads d s m e
 
-fired-append : (d : Depot) (s : State) (list : Effect → List ℕ) (p : ℕ → Bool) (a b : List ℕ) → any p (fired d s list (a ++ b)) ≡ (any p (fired d s list a) || any p (fired d s list b))
+fired-append : (d : Depot) (s : State) (list : Effect → List ℕ) (p : ℕ → Bool) (a b : List ℕ) → list_any p (fired d s list (a ++ b)) ≡ (list_any p (fired d s list a) || list_any p (fired d s list b))
 fired-append d s list p a b =
-    let q : ℕ → Bool = λ m. any p (fired_by d s list m) in
-    any-joined p (fired_by d s list) (a ++ b) ∙ any_append q a b ∙ ap (λ x. x || any q b) (sym (any-joined p (fired_by d s list) a)) ∙ ap (λ x. any p (fired d s list a) || x) (sym (any-joined p (fired_by d s list) b))
+    let q : ℕ → Bool = λ m. list_any p (fired_by d s list m) in
+    any-joined p (fired_by d s list) (a ++ b) ∙ list_any-append q a b ∙ ap (λ x. x || list_any q b) (sym (any-joined p (fired_by d s list) a)) ∙ ap (λ x. list_any p (fired d s list a) || x) (sym (any-joined p (fired_by d s list) b))
 
-fired-within : (d : Depot) (s : State) (list : Effect → List ℕ) (p : ℕ → Bool) (a b : List ℕ) → Within a b → any p (fired d s list a) ≡ true → any p (fired d s list b) ≡ true
-fired-within d s list p a b w h = any-joined p (fired_by d s list) b ∙ any-within (λ m. any p (fired_by d s list m)) a b w (sym (any-joined p (fired_by d s list) a) ∙ h)
+fired-within : (d : Depot) (s : State) (list : Effect → List ℕ) (p : ℕ → Bool) (a b : List ℕ) → Within a b → list_any p (fired d s list a) ≡ true → list_any p (fired d s list b) ≡ true
+fired-within d s list p a b w h = any-joined p (fired_by d s list) b ∙ any-within (λ m. list_any p (fired_by d s list m)) a b w (sym (any-joined p (fired_by d s list) a) ∙ h)
 
-fired-order : (d : Depot) (s : State) (list : Effect → List ℕ) (p : ℕ → Bool) (a b : List ℕ) → SameMoves a b → any p (fired d s list a) ≡ any p (fired d s list b)
-fired-order d s list p a b same = same_bool (any p (fired d s list a)) (any p (fired d s list b)) (fired-within d s list p a b (λ x. omega (arith, same x))) (fired-within d s list p b a (λ x. omega (arith, same x)))
+fired-order : (d : Depot) (s : State) (list : Effect → List ℕ) (p : ℕ → Bool) (a b : List ℕ) → SameMoves a b → list_any p (fired d s list a) ≡ list_any p (fired d s list b)
+fired-order d s list p a b same = same_bool (list_any p (fired d s list a)) (list_any p (fired d s list b)) (fired-within d s list p a b (λ x. omega (arith, same x))) (fired-within d s list p b a (λ x. omega (arith, same x)))
 
 -- moves whose parts read alike fire alike
 same-effects : (d : Depot) (s t : State) (list : Effect → List ℕ) (es : List Effect) → ((e : ℕ) → truth_of d t (get_or es e nothing).condition ≡ truth_of d s (get_or es e nothing).condition) → flat_map (fires d t list) es ≡ flat_map (fires d s list) es
@@ -47,7 +48,7 @@ pub contradictory-within : (d : Depot) (s : State) (a b : List ℕ) → Within a
 contradictory-within d s a b w h = elim (cases_Bool (contradictory d s a)) [ inr k ↦ k | inl k ↦ absurd (true≢false (sym (bigger k) ∙ h)) ]
   where
     bigger : contradictory d s a ≡ true → contradictory d s b ≡ true
-    bigger k = fired-within d s (λ e. e.settings) (λ g. any (λ f. d.carries g f) (fired d s (λ e. e.strikes) b)) a b w (any-weaker (λ g. any (λ f. d.carries g f) (fired d s (λ e. e.strikes) a)) (λ g. any (λ f. d.carries g f) (fired d s (λ e. e.strikes) b)) (λ g. fired-within d s (λ e. e.strikes) (λ f. d.carries g f) a b w) (fired d s (λ e. e.settings) a) k)
+    bigger k = fired-within d s (λ e. e.settings) (λ g. list_any (λ f. d.carries g f) (fired d s (λ e. e.strikes) b)) a b w (any-weaker (λ g. list_any (λ f. d.carries g f) (fired d s (λ e. e.strikes) a)) (λ g. list_any (λ f. d.carries g f) (fired d s (λ e. e.strikes) b)) (λ g. fired-within d s (λ e. e.strikes) (λ f. d.carries g f) a b w) (fired d s (λ e. e.settings) a) k)
 
 pub contradictory-alike : (d : Depot) (s t : State) (ms : List ℕ) → AllByRecursion (Alike d s t) ms → contradictory d t ms ≡ contradictory d s ms
 contradictory-alike d s t ms h = ap (λ l. clash d l (fired d t (λ e. e.strikes) ms)) (same-fired d s t (λ e. e.settings) ms h) ∙ ap (λ l. clash d (fired d s (λ e. e.settings) ms) l) (same-fired d s t (λ e. e.strikes) ms h)
@@ -67,11 +68,11 @@ after-order d s a b same = fun_ext (λ f. ap (λ x. x || (s f && not (removes d 
 -- moves that fire alike do alike
 after-alike : (d : Depot) (s t : State) (ms : List ℕ) (f : ℕ) → AllByRecursion (Alike d s t) ms → after d t ms f ≡ (adds d s ms f || (t f && not (removes d s ms f)))
 unfolding after
-after-alike d s t ms f h = ap (λ l. any (λ g. d.carries g f) l || (t f && not (removes d t ms f))) (same-fired d s t (λ e. e.settings) ms h) ∙ ap (λ l. adds d s ms f || (t f && not (any (λ g. d.carries f g) l))) (same-fired d s t (λ e. e.strikes) ms h)
+after-alike d s t ms f h = ap (λ l. list_any (λ g. d.carries g f) l || (t f && not (removes d t ms f))) (same-fired d s t (λ e. e.settings) ms h) ∙ ap (λ l. adds d s ms f || (t f && not (list_any (λ g. d.carries f g) l))) (same-fired d s t (λ e. e.strikes) ms h)
 
 -- a setting carries a fact that carries a strike, and so the strike
-any-pair : (d : Depot) → Carrying d → (f : ℕ) (settings strikes : List ℕ) → any (λ g. d.carries g f) settings ≡ true → any (λ g. d.carries f g) strikes ≡ true → clash d settings strikes ≡ true
-any-pair d law f settings strikes a r = any-weaker (λ g. d.carries g f) (λ g. any (λ h. d.carries g h) strikes) (λ g k. any-weaker (λ h. d.carries f h) (λ h. d.carries g h) (λ h l. law.onward g f h k l) strikes r) settings a
+any-pair : (d : Depot) → Carrying d → (f : ℕ) (settings strikes : List ℕ) → list_any (λ g. d.carries g f) settings ≡ true → list_any (λ g. d.carries f g) strikes ≡ true → clash d settings strikes ≡ true
+any-pair d law f settings strikes a r = any-weaker (λ g. d.carries g f) (λ g. list_any (λ h. d.carries g h) strikes) (λ g k. any-weaker (λ h. d.carries f h) (λ h. d.carries g h) (λ h l. law.onward g f h k l) strikes r) settings a
 
 -- composition: moves that read as at the start after others, without contradiction, do after them what all do together
 pub after-after : GroupsJoin
@@ -81,7 +82,7 @@ after-after d law s a b agreed alike = fun_ext (λ f. after-alike d s (after d s
     joins : (aa ab ra rb st : Bool) → (aa ≡ true → rb ≡ true → ⊥) → (ab || ((aa || (st && not ra)) && not rb)) ≡ ((aa || ab) || (st && not (ra || rb)))
     joins aa ab ra rb st never = grind arith
 
-    whole : (list : Effect → List ℕ) (p : ℕ → Bool) → any p (fired d s list a) || any p (fired d s list b) ≡ true → any p (fired d s list (a ++ b)) ≡ true
+    whole : (list : Effect → List ℕ) (p : ℕ → Bool) → list_any p (fired d s list a) || list_any p (fired d s list b) ≡ true → list_any p (fired d s list (a ++ b)) ≡ true
     whole list p h = fired-append d s list p a b ∙ h
 
     apart : (f : ℕ) → adds d s a f ≡ true → removes d s b f ≡ true → ⊥
@@ -107,10 +108,10 @@ pub unlisted-stay : UnlistedStay
 unfolding after
 unlisted-stay d law s moves f unlisted = rw (never (λ g. d.carries g f) (fired d s (λ e. e.settings) moves) (λ g k. unlisted (law.listed g f k).1), never (λ g. d.carries f g) (fired d s (λ e. e.strikes) moves) (λ g k. unlisted (law.listed f g k).0)) (and-true (s f))
   where
-    never : (p : ℕ → Bool) (xs : List ℕ) → ((x : ℕ) → p x ≡ true → ⊥) → any p xs ≡ false
-    never p xs none = elim (cases_Bool (any p xs)) [ inr k ↦ k | inl k ↦ absurd (true≢false (sym (any-weaker p (λ x. false) (λ x h. absurd (none x h)) xs k) ∙ any_false xs)) ]
+    never : (p : ℕ → Bool) (xs : List ℕ) → ((x : ℕ) → p x ≡ true → ⊥) → list_any p xs ≡ false
+    never p xs none = elim (cases_Bool (list_any p xs)) [ inr k ↦ k | inl k ↦ absurd (true≢false (sym (any-weaker p (λ x. false) (λ x h. absurd (none x h)) xs k) ∙ any_false xs)) ]
       where
-        any_false : (xs : List ℕ) → any (λ x. false) xs ≡ false
+        any_false : (xs : List ℕ) → list_any (λ x. false) xs ≡ false
         any_false [] = refl
         any_false (x ∷ xs) = any_false xs
 
@@ -123,4 +124,4 @@ effects_take_place d law = record { start = λ f l there. any_at (λ g. d.carrie
     gone a st r never struck = grind arith
 
     unset : (s : State) (moves : List ℕ) (f : ℕ) → contradictory d s moves ≡ false → 0 < times f (fired d s (λ e. e.strikes) moves) → adds d s moves f ≡ true → ⊥
-    unset s moves f agreed there set = true≢false (sym (any-weaker (λ g. d.carries g f) (λ g. any (λ h. d.carries g h) (fired d s (λ e. e.strikes) moves)) (λ g k. any_at (λ h. d.carries g h) f (fired d s (λ e. e.strikes) moves) k there) (fired d s (λ e. e.settings) moves) set) ∙ agreed)
+    unset s moves f agreed there set = true≢false (sym (any-weaker (λ g. d.carries g f) (λ g. list_any (λ h. d.carries g h) (fired d s (λ e. e.strikes) moves)) (λ g k. any_at (λ h. d.carries g h) f (fired d s (λ e. e.strikes) moves) k there) (fired d s (λ e. e.settings) moves) set) ∙ agreed)

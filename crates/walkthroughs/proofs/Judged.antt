@@ -1,7 +1,7 @@
 -- The computed refusal is the refusal of the rules. Assumes nothing.
 use Rattle.std.proofs.Common.{◌≡◌, ℕ, zero, suc, ◌^◌, ◌<◌, ◌≤◌, Bool, true, false, not, ◌&&◌, eqb, ltb, leb, List, [], ◌∷◌, ◌++◌, length, Some, None, Decides, filter, Option, sym, refl, ap, ◌∙◌, inl, inr, arith}
 use mathlib.Core.Bool.{beq}
-use Rattle.std.specs.List.{flat_map}
+use Rattle.std.specs.List.{flat_map, list_any}
 use Rattle.std.proofs.lemmas.List.{get_or_past, length-append}
 use Rattle.std.proofs.lemmas.Bool.{cases_lt, false≢true, le-leb, leb-true, not_from_false, not-true, true≢false}
 use Rattle.std.proofs.lemmas.Bool.Decides.{Decides-and, Decides-eqb, Decides-like, Decides-ltb, Decides-not, Decides-or}
@@ -9,7 +9,7 @@ use Rattle.sheets.specs.declared.refusals.Refusal.{Refusal}
 use Rattle.sheets.specs.declared.refusals.Refusal.TheVariants.{OverLimit, BadLine, BadLetter, FieldCount, NotItsForm, NotListed, Twice, AlwaysTrue, TableFull, NoGoal, StepSize, UnknownMove, RepeatedMove, NeedFalse, Contradictory, Disturbed, GoalFalse, UnknownNumber, BufferShort, NoMemory}
 use Rattle.walkthroughs.specs.Depots.{Depot, Effect, State, Carrying, Listed, effect_of, move_of, reads}
 use Rattle.walkthroughs.specs.Disturbance.{move_at}
-use Rattle.walkthroughs.specs.Firing.{after, any, clash, fires, settings_at, strikes_at}
+use Rattle.walkthroughs.specs.Firing.{after, clash, fires, settings_at, strikes_at}
 use Rattle.walkthroughs.specs.Judging.{effects_in, has_fault, is_listed, judge, possible, up_to}
 use Rattle.walkthroughs.specs.Laws.{Judged, JudgedByTheRules}
 use Rattle.walkthroughs.specs.Lists.{times}
@@ -53,9 +53,9 @@ length-joined f m (y ∷ ms) there = elim (one-cases m y) [ inl k ↦ here k.0 |
     here e = rw (length-append (f y) (flat_map f ms), e) (omega arith)
 
 -- an effect that has something to fire is one of its move
-effect_bound : (d : Depot) (s : State) (list : Effect → List ℕ) (p : ℕ → Bool) (m e : ℕ) → list nothing ≡ [] → any p (fires d s list (effect_of d m e)) ≡ true → e ≤ length (move_of d m).effects
+effect_bound : (d : Depot) (s : State) (list : Effect → List ℕ) (p : ℕ → Bool) (m e : ℕ) → list nothing ≡ [] → list_any p (fires d s list (effect_of d m e)) ≡ true → e ≤ length (move_of d m).effects
 effect_bound d s list p m zero empty h = omega arith
-effect_bound d s list p m (suc e) empty h = elim (cases_lt e (length (move_of d m).effects)) [ inl in' ↦ in' | inr past ↦ absurd (false≢true (sym (ap (any p) empty) ∙ rw (get_or_past (move_of d m).effects e nothing past) at h)) ]
+effect_bound d s list p m (suc e) empty h = elim (cases_lt e (length (move_of d m).effects)) [ inl in' ↦ in' | inr past ↦ absurd (false≢true (sym (ap (list_any p) empty) ∙ rw (get_or_past (move_of d m).effects e nothing past) at h)) ]
 
 -- a part that reads otherwise is one of its move
 part-bound : (d : Depot) (s t : State) (m e : ℕ) → reads d t m e ≡ not (reads d s m e) → e ≤ length (move_of d m).effects
@@ -65,7 +65,7 @@ module _ (d : Depot) (s : State) (moves : List ℕ) where
   abbrev tests : Refusal → Bool
   tests = has_fault (clash d) (λ set. true) d s moves
 
-  decides_repeated : (p : ℕ) → Decides (any (λ q. is_listed q (length moves) && (ltb q p && eqb (move_at moves q) (move_at moves p))) (up_to (length moves))) ((q : ℕ) × Listed q (length moves) × (q < p) × (move_at moves q ≡ move_at moves p))
+  decides_repeated : (p : ℕ) → Decides (list_any (λ q. is_listed q (length moves) && (ltb q p && eqb (move_at moves q) (move_at moves p))) (up_to (length moves))) ((q : ℕ) × Listed q (length moves) × (q < p) × (move_at moves q ≡ move_at moves p))
   decides_repeated p = (λ h. found (any-find test (up_to (length moves)) h), λ f. any_at test f.0 (up_to (length moves)) ((each f.0).1 (f.1, (f.2, f.3))) (in_up_to f.0 (length moves) f.1.1))
     where
       test : ℕ → Bool
@@ -80,7 +80,7 @@ module _ (d : Depot) (s : State) (moves : List ℕ) where
   faults_decided : (w : Refusal) → Decides (tests w) (StepFault d s moves w)
   faults_decided StepSize = Decides-or (eqb (length moves) 0) (ltb 8 (length moves)) (Decides-eqb (length moves) 0) (Decides-ltb 8 (length moves))
   faults_decided (UnknownMove p) = Decides-and (is_listed p (length moves)) (not (is_listed (move_at moves p) (length d.moves))) (decides_listed p (length moves)) (Decides-not (is_listed (move_at moves p) (length d.moves)) (decides_listed (move_at moves p) (length d.moves)))
-  faults_decided (RepeatedMove p) = Decides-and (is_listed p (length moves)) (any (λ q. is_listed q (length moves) && (ltb q p && eqb (move_at moves q) (move_at moves p))) (up_to (length moves))) (decides_listed p (length moves)) (decides_repeated p)
+  faults_decided (RepeatedMove p) = Decides-and (is_listed p (length moves)) (list_any (λ q. is_listed q (length moves) && (ltb q p && eqb (move_at moves q) (move_at moves p))) (up_to (length moves))) (decides_listed p (length moves)) (decides_repeated p)
   faults_decided (NeedFalse p) = Decides-and (is_listed p (length moves)) (not (reads d s (move_at moves p) 0)) (decides_listed p (length moves)) (decides_isnt (reads d s (move_at moves p) 0))
   faults_decided (Contradictory p e q h) = Decides-like (tests (Contradictory p e q h)) (λ f. (f.0, f.1.0, f.1.1)) (λ f. (f.0, (f.1, f.2))) (Decides-and (is_listed p (length moves)) (is_listed q (length moves) && meets) (decides_listed p (length moves)) (Decides-and (is_listed q (length moves)) meets (decides_listed q (length moves)) (decides_is meets)))
     where
@@ -136,8 +136,8 @@ module _ (d : Depot) (s : State) (moves : List ℕ) where
       clashing : (p e q h : ℕ) → StepFault d s moves (Contradictory p e q h) → Member (Contradictory p e q h) listed
       clashing p e q h f =
           let w = Contradictory p e q h in
-          let sets : e ≤ effects_in d moves = in_step p e f.0 (effect_bound d s (λ x. x.settings) (λ g. any (λ y. d.carries g y) (strikes_at d s (move_at moves q) h)) (move_at moves p) e refl f.2) in
-          let strikes : h ≤ effects_in d moves = in_step q h f.1 (effect_bound d s (λ x. x.strikes) (λ y. any (λ g. d.carries g y) (settings_at d s (move_at moves p) e)) (move_at moves q) h refl (any_swap (λ g y. d.carries g y) (settings_at d s (move_at moves p) e) (strikes_at d s (move_at moves q) h) f.2)) in
+          let sets : e ≤ effects_in d moves = in_step p e f.0 (effect_bound d s (λ x. x.settings) (λ g. list_any (λ y. d.carries g y) (strikes_at d s (move_at moves q) h)) (move_at moves p) e refl f.2) in
+          let strikes : h ≤ effects_in d moves = in_step q h f.1 (effect_bound d s (λ x. x.strikes) (λ y. list_any (λ g. d.carries g y) (settings_at d s (move_at moves p) e)) (move_at moves q) h refl (any_swap (λ g y. d.carries g y) (settings_at d s (move_at moves p) e) (strikes_at d s (move_at moves q) h) f.2)) in
           at-place w p f.0 (inr (inr (inr (in_row w (λ x. flat_map (λ y. flat_map (λ z. Contradictory p x y z ∷ []) (up_to (effects_in d moves))) (up_to (length moves))) e (effects_in d moves) sets (in_row w (λ x. flat_map (λ y. Contradictory p e x y ∷ []) (up_to (effects_in d moves))) q (length moves) f.1.1 (in_row w (λ x. Contradictory p e q x ∷ []) h (effects_in d moves) strikes (inl refl)))))))
 
       disturbed : (n p e : ℕ) → StepFault d s moves (Disturbed n p e) → Member (Disturbed n p e) listed

@@ -7,6 +7,8 @@ pub mod Fires
 pub mod Firings
 pub mod Judged
 pub mod Lowests
+pub mod MadeRows
+pub mod Mapped
 pub mod Marking
 pub mod Places
 pub mod Placewise

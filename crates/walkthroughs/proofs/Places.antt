@@ -7,7 +7,8 @@ use Rattle.std.proofs.lemmas.List.{get_or_past}
 use Rattle.std.proofs.lemmas.Bool.{cases_lt, or_cases, or_left, or_right, false≢true}
 use Rattle.walkthroughs.specs.Depots.{Depot, Effect, State, Listed, effect_of, move_of, truth_of}
 use Rattle.walkthroughs.specs.Disturbance.{move_at}
-use Rattle.walkthroughs.specs.Firing.{any, fired, fired_by, fires}
+use Rattle.std.specs.List.{list_any}
+use Rattle.walkthroughs.specs.Firing.{fired, fired_by, fires}
 use Rattle.walkthroughs.specs.Lists.{times}
 use Rattle.walkthroughs.proofs.Counts.{any_at, any-find, any-joined, any-weaker, one-cases, one-is}
 use Rattle.walkthroughs.proofs.Firings.{nothing}
@@ -69,17 +70,17 @@ times-twice (suc p) zero ms l k less same = absurd (omega (arith, k.0))
 times-twice (suc p) (suc q) ms l k less same = times-two q p ms (omega arith) (omega (arith, l.1)) same
 
 -- an entry that passes has a place
-any_place : (p : Effect → Bool) (es : List Effect) → any p es ≡ true → (k : ℕ) × (k < length es) × (p (get_or es k nothing) ≡ true)
+any_place : (p : Effect → Bool) (es : List Effect) → list_any p es ≡ true → (k : ℕ) × (k < length es) × (p (get_or es k nothing) ≡ true)
 any_place p [] h = absurd (false≢true h)
-any_place p (e ∷ es) h = elim (or_cases (p e) (any p es) h) [ inl k ↦ (0, omega arith, k) | inr k ↦ later (any_place p es k) ]
+any_place p (e ∷ es) h = elim (or_cases (p e) (list_any p es) h) [ inl k ↦ (0, omega arith, k) | inr k ↦ later (any_place p es k) ]
   where
     later : ((k : ℕ) × (k < length es) × (p (get_or es k nothing) ≡ true)) → (k : ℕ) × (k < length (e ∷ es)) × (p (get_or (e ∷ es) k nothing) ≡ true)
     later (k, in', here) = (suc k, omega arith, here)
 
-any-get_or : (p : Effect → Bool) (es : List Effect) (k : ℕ) → k < length es → p (get_or es k nothing) ≡ true → any p es ≡ true
+any-get_or : (p : Effect → Bool) (es : List Effect) (k : ℕ) → k < length es → p (get_or es k nothing) ≡ true → list_any p es ≡ true
 any-get_or p [] k in' h = absurd (omega arith)
-any-get_or p (e ∷ es) zero in' h = or_left (p e) (any p es) h
-any-get_or p (e ∷ es) (suc k) in' h = or_right (p e) (any p es) (any-get_or p es k (omega arith) h)
+any-get_or p (e ∷ es) zero in' h = or_left (p e) (list_any p es) h
+any-get_or p (e ∷ es) (suc k) in' h = or_right (p e) (list_any p es) (any-get_or p es k (omega arith) h)
 
 -- what moves fire has a place and an effect
 pub record FiredAt (d : Depot) (s : State) (list : Effect → List ℕ) (p : ℕ → Bool) (ms : List ℕ) : Type 0 where
@@ -87,33 +88,33 @@ pub record FiredAt (d : Depot) (s : State) (list : Effect → List ℕ) (p : ℕ
   pub effect : ℕ
   pub placed : Listed place (length ms)
   pub numbered : effect ≤ length (move_of d (move_at ms place)).effects
-  pub here : any p (fires d s list (effect_of d (move_at ms place) effect)) ≡ true
+  pub here : list_any p (fires d s list (effect_of d (move_at ms place) effect)) ≡ true
 
-pub fired-at : (d : Depot) (s : State) (list : Effect → List ℕ) (p : ℕ → Bool) (ms : List ℕ) → any p (fired d s list ms) ≡ true → FiredAt d s list p ms
+pub fired-at : (d : Depot) (s : State) (list : Effect → List ℕ) (p : ℕ → Bool) (ms : List ℕ) → list_any p (fired d s list ms) ≡ true → FiredAt d s list p ms
 unfolding fired_by
-fired-at d s list p ms h = by_move (any-find (λ m. any p (fired_by d s list m)) ms (sym (any-joined p (fired_by d s list) ms) ∙ h))
+fired-at d s list p ms h = by_move (any-find (λ m. list_any p (fired_by d s list m)) ms (sym (any-joined p (fired_by d s list) ms) ∙ h))
   where
-    at-place : (m : ℕ) → ((k : ℕ) × (k < length (move_of d m).effects) × (any p (fires d s list (get_or (move_of d m).effects k nothing)) ≡ true)) → ((q : ℕ) × Listed q (length ms) × (move_at ms q ≡ m)) → FiredAt d s list p ms
+    at-place : (m : ℕ) → ((k : ℕ) × (k < length (move_of d m).effects) × (list_any p (fires d s list (get_or (move_of d m).effects k nothing)) ≡ true)) → ((q : ℕ) × Listed q (length ms) × (move_at ms q ≡ m)) → FiredAt d s list p ms
     at-place m (k, in', here) (q, listed, same) = record { place = q; effect = suc k; placed = listed; numbered = rw same (omega arith); here = rw same here }
 
-    by_move : ((m : ℕ) × (any p (fired_by d s list m) ≡ true) × (0 < times m ms)) → FiredAt d s list p ms
-    by_move (m, passes, there) = at-place m (any_place (λ e. any p (fires d s list e)) (move_of d m).effects (sym (any-joined p (fires d s list) (move_of d m).effects) ∙ passes)) (place_of m ms there)
+    by_move : ((m : ℕ) × (list_any p (fired_by d s list m) ≡ true) × (0 < times m ms)) → FiredAt d s list p ms
+    by_move (m, passes, there) = at-place m (any_place (λ e. list_any p (fires d s list e)) (move_of d m).effects (sym (any-joined p (fires d s list) (move_of d m).effects) ∙ passes)) (place_of m ms there)
 
 -- and what an effect at a place fires, the moves fire
-pub at-fired : (d : Depot) (s : State) (list : Effect → List ℕ) (p : ℕ → Bool) (ms : List ℕ) (q e : ℕ) → list nothing ≡ [] → Listed q (length ms) → any p (fires d s list (effect_of d (move_at ms q) e)) ≡ true → any p (fired d s list ms) ≡ true
+pub at-fired : (d : Depot) (s : State) (list : Effect → List ℕ) (p : ℕ → Bool) (ms : List ℕ) (q e : ℕ) → list nothing ≡ [] → Listed q (length ms) → list_any p (fires d s list (effect_of d (move_at ms q) e)) ≡ true → list_any p (fired d s list ms) ≡ true
 unfolding fired_by
-at-fired d s list p ms q e empty listed h = any-joined p (fired_by d s list) ms ∙ any_at (λ m. any p (fired_by d s list m)) (move_at ms q) ms (any-joined p (fires d s list) (move_of d (move_at ms q)).effects ∙ by_effect (move_of d (move_at ms q)).effects e h) (times-at q ms listed)
+at-fired d s list p ms q e empty listed h = any-joined p (fired_by d s list) ms ∙ any_at (λ m. list_any p (fired_by d s list m)) (move_at ms q) ms (any-joined p (fires d s list) (move_of d (move_at ms q)).effects ∙ by_effect (move_of d (move_at ms q)).effects e h) (times-at q ms listed)
   where
-    idle : any p (fires d s list nothing) ≡ true → ⊥
-    idle k = false≢true (sym (ap (any p) empty) ∙ k)
+    idle : list_any p (fires d s list nothing) ≡ true → ⊥
+    idle k = false≢true (sym (ap (list_any p) empty) ∙ k)
 
-    by_effect : (es : List Effect) (e : ℕ) → any p (fires d s list (get_or (nothing ∷ es) e nothing)) ≡ true → any (λ x. any p (fires d s list x)) es ≡ true
+    by_effect : (es : List Effect) (e : ℕ) → list_any p (fires d s list (get_or (nothing ∷ es) e nothing)) ≡ true → list_any (λ x. list_any p (fires d s list x)) es ≡ true
     by_effect es zero k = absurd (idle k)
-    by_effect es (suc e) k = elim (cases_lt e (length es)) [ inl in' ↦ any-get_or (λ x. any p (fires d s list x)) es e in' k | inr past ↦ absurd (idle (rw (get_or_past es e nothing past) at k)) ]
+    by_effect es (suc e) k = elim (cases_lt e (length es)) [ inl in' ↦ any-get_or (λ x. list_any p (fires d s list x)) es e in' k | inr past ↦ absurd (idle (rw (get_or_past es e nothing past) at k)) ]
 
 -- the two lists of a clash searched the other way round
-pub any_swap : (r : ℕ → ℕ → Bool) (xs ys : List ℕ) → any (λ x. any (λ y. r x y) ys) xs ≡ true → any (λ y. any (λ x. r x y) xs) ys ≡ true
-any_swap r xs ys h = of (any-find (λ x. any (λ y. r x y) ys) xs h)
+pub any_swap : (r : ℕ → ℕ → Bool) (xs ys : List ℕ) → list_any (λ x. list_any (λ y. r x y) ys) xs ≡ true → list_any (λ y. list_any (λ x. r x y) xs) ys ≡ true
+any_swap r xs ys h = of (any-find (λ x. list_any (λ y. r x y) ys) xs h)
   where
-    of : ((x : ℕ) × (any (λ y. r x y) ys ≡ true) × (0 < times x xs)) → any (λ y. any (λ x. r x y) xs) ys ≡ true
-    of (x, some, there) = any-weaker (λ y. r x y) (λ y. any (λ x. r x y) xs) (λ y k. any_at (λ x. r x y) x xs k there) ys some
+    of : ((x : ℕ) × (list_any (λ y. r x y) ys ≡ true) × (0 < times x xs)) → list_any (λ y. list_any (λ x. r x y) xs) ys ≡ true
+    of (x, some, there) = any-weaker (λ y. r x y) (λ y. list_any (λ x. r x y) xs) (λ y k. any_at (λ x. r x y) x xs k there) ys some

@@ -1,11 +1,14 @@
 -- A depot that was read, by number, as the rules have it. Assumes nothing.
-use Rattle.std.proofs.Common.{◌≡◌, ℕ, zero, suc, ◌-◌, ◌<◌, ◌≤◌, Bool, List, [], ◌∷◌, map, length, get_or, Some, None, sym, refl, ap, ◌∙◌, arith}
+use Rattle.std.specs.List.{slice_get}
+use Rattle.std.specs.Option.{option_map, unwrap_or}
+use Rattle.std.proofs.lemmas.Option.{slice_get-map, unwrap_or-slice_get}
+use Rattle.std.proofs.Common.{◌≡◌, ℕ, zero, suc, Bool, List, [], ◌∷◌, map, length, get_or, Some, None, Option, sym, refl, ap, ◌∙◌, arith}
 use Rattle.depots.specs.declared.depot.Effect.{Effect as Kept}
 use Rattle.depots.specs.Moves.{effects_of, entry_at, need_of}
 use Rattle.depots.specs.Tables.{Tables, effect_of}
 use Rattle.depots.specs.Tables as tables
-use Rattle.walkthroughs.specs.Depots.{Depot, Move, move_of, numbered, part_of}
-use Rattle.walkthroughs.specs.Depots as depots
+use Rattle.walkthroughs.specs.Depots.{move_of, numbered, part_of}
+use Rattle.walkthroughs.proofs.Firings.{nothing}
 use Rattle.walkthroughs.specs.Ruled.{as_effect, effect_kept, ruled, with_effects}
 
 -- the entry with a number, if it is listed
@@ -58,29 +61,11 @@ module _ {F : Type 0} (carries : F → F → Bool) (t : Tables F) where
     pub lent_are : map effect_kept lent ≡ (move_of (ruled carries t) m).effects
     lent_are = kept_twice lent ∙ ap (map as_effect) are ∙ effects_are m
 
-    -- one of them, by its number
-    pub lent_at : (i : ℕ) (e : Kept) → i < length lent → e ≡ get_or lent i e → effect_kept e ≡ depots.effect_of (ruled carries t) m (suc i)
-    lent_at i e within is = at lent i e within is ∙ ap (λ l. numbered l (suc i) (record { condition = 0; settings = []; strikes = [] })) lent_are
-      where
-        at : (lent : List Kept) (i : ℕ) (e : Kept) → i < length lent → e ≡ get_or lent i e → effect_kept e ≡ numbered (map effect_kept lent) (suc i) (record { condition = 0; settings = []; strikes = [] })
-        at [] i e within is = absurd (omega arith)
-        at (x ∷ lent) zero e within is = ap effect_kept is
-        at (x ∷ lent) (suc i) e within is = at lent i e (omega arith) is
-
-    -- and none past them
-    pub lent_past : (n : ℕ) → length lent < n → depots.effect_of (ruled carries t) m n ≡ record { condition = 0; settings = []; strikes = [] }
-    lent_past n past = ap (λ l. numbered l n (record { condition = 0; settings = []; strikes = [] })) (sym lent_are) ∙ out lent n past
-      where
-        out : (lent : List Kept) (n : ℕ) → length lent < n → numbered (map effect_kept lent) n (record { condition = 0; settings = []; strikes = [] }) ≡ record { condition = 0; settings = []; strikes = [] }
-        out lent zero past = refl
-        out [] (suc n) past = refl
-        out (x ∷ lent) (suc zero) past = absurd (omega arith)
-        out (x ∷ lent) (suc (suc n)) past = out lent (suc n) (omega arith)
-
-    pub part_at : (n : ℕ) (e : Kept) → (n ≡ 0 → ⊥) → n ≤ length lent → e ≡ get_or lent (n - 1) e → (effect_kept e).condition ≡ part_of (ruled carries t) m n
-    part_at zero e some within is = absurd (some refl)
-    part_at (suc i) e some within is = ap (λ x. x.condition) (lent_at i e (omega arith) (is ∙ ap (λ k. get_or lent k e) (omega arith)))
-
-    pub part-past : (n : ℕ) → length lent < n → 0 ≡ part_of (ruled carries t) m n
-    part-past zero past = absurd (omega arith)
-    part-past (suc i) past = sym (ap (λ x. x.condition) (lent_past (suc i) past))
+    -- the part that is the condition of one of them
+    pub part_is : (n i : ℕ) (o : Option Kept) → n ≡ suc i → o ≡ slice_get lent i → (unwrap_or (option_map effect_kept o) nothing).condition ≡ part_of (ruled carries t) m n
+    part_is n i o is at =
+        ap (λ o. (unwrap_or (option_map effect_kept o) nothing).condition) at
+        ∙ ap (λ o. (unwrap_or o nothing).condition) (sym (slice_get-map effect_kept lent i))
+        ∙ ap (λ e. e.condition) (unwrap_or-slice_get (map effect_kept lent) i nothing)
+        ∙ ap (λ l. (get_or l i nothing).condition) lent_are
+        ∙ ap (part_of (ruled carries t) m) (sym is)

@@ -1,35 +1,22 @@
 -- A search from the lowest number on. Assumes nothing.
-use Rattle.std.proofs.Common.{◌≡◌, ℕ, ◌+◌, ◌<◌, List, ◌∷◌, Some, None, sym, ◌∙◌, subst, inl, inr, ⊎_elim, arith}
-use Rattle.std.proofs.lemmas.Bool.{cases_eq, cases_order}
-use Rattle.sheets.specs.Faults.{NoLater}
-use Rattle.walkthroughs.specs.Searching.{LowestBy}
+use Rattle.std.specs.Option.{MatchOption, option_map}
+use Rattle.std.proofs.Common.{◌≡◌, ℕ, ◌+◌, ◌-◌, ◌<◌, ◌≤◌, Some, None, Option, sym, subst, inl, inr, arith}
+use Rattle.std.proofs.lemmas.Bool.{cases_order}
+use Rattle.walkthroughs.specs.Searching.{LowestBy, one}
 
--- what is looked for has a first number and the rest
-module _ {X : Type 0} (P : ℕ → X → Type 0) where
-  -- nothing that is wanted has a first number below n
-  abbrev pub Clear : ℕ → Type 0
-  Clear n = (m : ℕ) (x : X) → m < n → P m x → ⊥
+-- the first number that is found, as the lowest
+module _ (Q : ℕ → Type 0) (k : ℕ) where
+  pub lowest_first : ((n : ℕ) → Q n → n < k) → (r : Option ℕ) → MatchOption r ((n : ℕ) → 0 ≤ n → n < k → Q n → ⊥) (λ n. (0 ≤ n) × (n < k) × Q n × ((m : ℕ) → 0 ≤ m → m < n → Q m → ⊥)) → LowestBy one Q r
+  lowest_first within None none = λ n so. none n (omega arith) (within n so) so
+  lowest_first within (Some n) found = (found.2, λ m so. elim (cases_order m n) [ inl same ↦ inr (sym same, tt) | inr o ↦ elim o [ inl low ↦ absurd (found.3 m (omega arith) low so) | inr high ↦ inl high ] ])
 
-  pub clear_none : Clear 0
-  clear_none m x below wanted = omega arith
-
-  pub clear-more : (n : ℕ) → Clear n → ((x : X) → P n x → ⊥) → Clear (n + 1)
-  clear-more n clear none m x below wanted = ⊎_elim (λ (e : m ≡ n). none x (subst (λ k. P k x) e wanted)) (λ (ne : m ≡ n → ⊥). clear m x (omega arith) wanted) (cases_eq m n)
-
-  -- the lowest of those with the first number n is the lowest of all, if none is lower
-  module _ {Y : Type 0} (row_x : X → List ℕ) (row_y : Y → List ℕ) (head : Y → ℕ) (tail : Y → X) (row_is : (y : Y) → row_y y ≡ head y ∷ row_x (tail y)) where
-    pub found-lowest : (n : ℕ) (x : X) (y : Y) → head y ≡ n → tail y ≡ x → Clear n → P n x → ((z : X) → P n z → NoLater (row_x x) (row_x z)) → LowestBy row_y (λ z. P (head z) (tail z)) (Some y)
-    found-lowest n x y is-head is-tail clear wanted lowest =
-        (subst (λ k. P k (tail y)) (sym is-head) (subst (P n) (sym is-tail) wanted), first)
-      where
-        first : (z : Y) → P (head z) (tail z) → NoLater (row_y y) (row_y z)
-        first z other =
-            subst (λ r. NoLater r (row_y z)) (sym (row_is y)) (subst (NoLater (head y ∷ row_x (tail y))) (sym (row_is z))
-            (⊎_elim
-            (λ (e : head z ≡ n). inr (is-head ∙ sym e, subst (λ t. NoLater (row_x t) (row_x (tail z))) (sym is-tail) (lowest (tail z) (subst (λ k. P k (tail z)) e other))))
-            (λ o. ⊎_elim (λ (low : head z < n). absurd (clear (head z) (tail z) low other)) (λ (high : n < head z). inl (omega arith)) o)
-            (cases_order (head z) n)))
-
-    -- and where none is left, there is none
-    pub none_found : (n : ℕ) → Clear n → ((m : ℕ) (x : X) → P m x → m < n) → LowestBy row_y (λ z. P (head z) (tail z)) None
-    none_found n clear within y wanted = clear (head y) (tail y) (within (head y) (tail y) wanted) wanted
+  -- the place after as many others
+  pub place_first : ((p : ℕ) → Q p → (0 < p) × (p ≤ k)) → (r : Option ℕ) → MatchOption r ((i : ℕ) → 0 ≤ i → i < k → Q (i + 1) → ⊥) (λ i. (0 ≤ i) × (i < k) × Q (i + 1) × ((j : ℕ) → 0 ≤ j → j < i → Q (j + 1) → ⊥)) → LowestBy one Q (option_map (λ i. i + 1) r)
+  place_first within None none = λ p so. let (i, is) = before p (within p so).0 in none i (omega arith) (omega (arith, (within p so).1)) (subst Q is so)
+    where
+      before : (p : ℕ) → 0 < p → (i : ℕ) × (p ≡ i + 1)
+      before p some = (p - 1, omega arith)
+  place_first within (Some i) found = (found.2, λ p so. elim (cases_order p (i + 1)) [ inl same ↦ inr (sym same, tt) | inr o ↦ elim o [ inl low ↦ absurd (lower p so low) | inr high ↦ inl high ] ])
+    where
+      lower : (p : ℕ) → Q p → p < i + 1 → ⊥
+      lower p so low = found.3 (p - 1) (omega arith) (omega (arith, (within p so).0)) (subst Q (omega (arith, (within p so).0)) so)

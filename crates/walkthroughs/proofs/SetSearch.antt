@@ -1,83 +1,61 @@
 -- The search for a disturbance: sets, places outside them, and parts. Assumes nothing.
-use Rattle.std.proofs.Common.{◌≡◌, ℕ, zero, suc, ◌+◌, ◌-◌, ◌*◌, ◌/◌, ◌%◌, ◌^◌, ◌<◌, ◌≤◌, Bool, true, false, not, List, [], length, get_or, Some, None, sym, refl, ap, ◌∙◌, subst, ⊎_elim, arith}
-use mathlib.Core.Bool.{beq}
+use Rattle.std.proofs.Common.{◌≡◌, ℕ, suc, ◌+◌, ◌*◌, ◌/◌, ◌%◌, ◌^◌, ◌<◌, ◌≤◌, false, List, [], ◌∷◌, length, get_or, Some, None, Option, sym, refl, ap, ◌∙◌, subst, inl, inr, arith}
+use Rattle.std.specs.Option.{MatchOption}
 use Rattle.std.proofs.Math.Nat.{mod-eq_of_lt}
 use Rattle.std.proofs.Math.Pow.{pow_mono}
-use Rattle.std.proofs.lemmas.Bool.{both_ways, cases_lt}
+use Rattle.std.proofs.lemmas.Bool.{cases_lt, cases_order}
 use Rattle.sheets.specs.Faults.{NoLater}
+use Rattle.walkthroughs.specs.declared.disturbance.Disturbance.{Disturbance}
 use Rattle.walkthroughs.specs.Depots.{Depot, State, move_of, reads}
 use Rattle.walkthroughs.specs.Disturbance.{OtherAt, Otherwise, SetDisturbs, move_at}
-use Rattle.walkthroughs.specs.Firing.{after}
-use Rattle.walkthroughs.specs.Searching.{LowestBy, one, three, two}
-use Rattle.walkthroughs.specs.Sets.{chosen, digit, in_set}
+use Rattle.walkthroughs.specs.Searching.{DisturbsBy, LowestBy, one, row_of}
+use Rattle.walkthroughs.specs.Sets.{digit, in_set}
 use Rattle.walkthroughs.proofs.Placewise.{move_at-next}
-use Rattle.walkthroughs.proofs.Searched.{Clear, clear-more, clear_none, found-lowest, none_found}
+use Rattle.walkthroughs.proofs.Searched.{lowest_first}
 use Rattle.walkthroughs.proofs.Walking.{never_both, reads-past}
 
 -- a digit by halving
 pub digit-next : (n k j : ℕ) → k ≡ suc j → digit n k ≡ digit (n / 2) j
 digit-next n k j is = ap (digit n) is
 
-pub in_set_digit : (n place : ℕ) → 0 < place → in_set n place ≡ digit n (place - 1)
-in_set_digit n zero some = absurd (omega arith)
-in_set_digit n (suc k) some = let same : k ≡ suc k - 1 = omega arith in ap (digit n) same
-
-unlike : (a b : Bool) → not (beq a b) ≡ true → a ≡ not b
-unlike true true e = sym e
-unlike true false e = refl
-unlike false true e = refl
-unlike false false e = e
-
-alike : (a b : Bool) → not (beq a b) ≡ false → a ≡ b
-alike true true e = refl
-alike true false e = e
-alike false true e = sym e
-alike false false e = refl
-
 -- the parts of a move
 module _ (d : Depot) (s t : State) (m : ℕ) where
-  abbrev pub PartsPassed : ℕ → Type 0
-  PartsPassed i = Clear {X = Unit {0}} (λ e _. Otherwise d s t m e) i
+  -- the first of the parts 0 to k - 1 that reads otherwise
+  abbrev pub FirstOther : ℕ → Option ℕ → Type 0
+  FirstOther k r = MatchOption r ((e : ℕ) → 0 ≤ e → e < k → reads d t m e ≡ reads d s m e) (λ e. (0 ≤ e) × (e < k) × Otherwise d s t m e × ((before : ℕ) → 0 ≤ before → before < e → reads d t m before ≡ reads d s m before))
 
-  pub parts_none : PartsPassed 0
-  parts_none = clear_none (λ e _. Otherwise d s t m e)
-
-  module _ (i : ℕ) (passed : PartsPassed i) (a b : Bool) (now : a ≡ reads d t m i) (was : b ≡ reads d s m i) where
-    pub part-found : not (beq a b) ≡ true → LowestBy one (Otherwise d s t m) (Some i)
-    part-found other = found-lowest (λ e _. Otherwise d s t m e) (λ _. []) one (λ e. e) (λ _. tt) (λ e. refl) i tt i refl refl passed (sym now ∙ unlike a b other ∙ ap not was) (λ _ _. tt)
-
-    pub parts_more : not (beq a b) ≡ false → PartsPassed (i + 1)
-    parts_more same = clear-more (λ e _. Otherwise d s t m e) i passed (λ _ other. never_both _ _ (sym now ∙ alike a b same ∙ was) other)
-
-  pub no_part : (i k : ℕ) → k ≡ length (move_of d m).effects → k < i → PartsPassed i → LowestBy one (Otherwise d s t m) None
-  no_part i k count end passed = none_found (λ e _. Otherwise d s t m e) (λ _. []) one (λ e. e) (λ _. tt) (λ e. refl) (suc (length (move_of d m).effects)) (λ e x below other. passed e x (omega arith) other) within
+  -- it is the lowest of all, since parts that a move lacks read alike
+  pub part_first : (k : ℕ) → k ≡ length (move_of d m).effects + 1 → (r : Option ℕ) → FirstOther k r → LowestBy one (Otherwise d s t m) r
+  part_first k count r first = lowest_first (Otherwise d s t m) k within r (unlike r first)
     where
-      within : (e : ℕ) (x : Unit {0}) → Otherwise d s t m e → e < suc (length (move_of d m).effects)
-      within e x other = ⊎_elim (λ (low : e < suc (length (move_of d m).effects)). low) (λ (high : suc (length (move_of d m).effects) ≤ e). absurd (never_both _ _ (reads-past d t m e (omega arith) ∙ sym (reads-past d s m e (omega arith))) other)) (cases_lt e (suc (length (move_of d m).effects)))
+      within : (e : ℕ) → Otherwise d s t m e → e < k
+      within e other = elim (cases_lt e k) [ inl low ↦ low | inr high ↦ absurd (never_both _ _ (reads-past d t m e (omega arith) ∙ sym (reads-past d s m e (omega arith))) other) ]
+
+      unlike : (r : Option ℕ) → FirstOther k r → MatchOption r ((e : ℕ) → 0 ≤ e → e < k → Otherwise d s t m e → ⊥) (λ e. (0 ≤ e) × (e < k) × Otherwise d s t m e × ((before : ℕ) → 0 ≤ before → before < e → Otherwise d s t m before → ⊥))
+      unlike None alike = λ e from below other. never_both _ _ (alike e from below) other
+      unlike (Some e) found = (found.0, found.1, found.2, λ before from below other. never_both _ _ (found.3 before from below) other)
 
 -- the places outside a set
 module _ (d : Depot) (s t : State) (moves : List ℕ) (set : ℕ) where
+  -- at none of the first i places a part reads otherwise
   abbrev pub PlacesPassed : ℕ → Type 0
-  PlacesPassed i = Clear (λ place part. OtherAt d s t moves set place part) (i + 1)
+  PlacesPassed i = (place part : ℕ) → place < i + 1 → OtherAt d s t moves set place part → ⊥
 
-  pub places_none : PlacesPassed 0
-  places_none place part below other = omega (arith, other.placed.0)
+  pub place_found : (i part : ℕ) → i < length moves → PlacesPassed i → false ≡ in_set set (i + 1) → LowestBy one (Otherwise d s t (get_or moves i 0)) (Some part) → LowestBy row_of (λ x. (x.set ≡ set) × OtherAt d s t moves set x.place x.part) (Some (record { set = set; place = i + 1; part = part }))
+  place_found i part here passed outside found = ((refl, record { placed = (omega arith, omega arith); outside = sym outside; otherwise = subst (λ m. Otherwise d s t m part) (sym (move_at-next moves i)) found.0 }), λ y other. inr (sym other.0, first y other.1))
+    where
+      first : (y : Disturbance) → OtherAt d s t moves set y.place y.part → NoLater ((i + 1) ∷ part ∷ []) (y.place ∷ y.part ∷ [])
+      first y other = elim (cases_order y.place (i + 1)) [
+        | inl same ↦ inr (sym same, found.1 y.part (subst (λ m. Otherwise d s t m y.part) (ap (move_at moves) same ∙ move_at-next moves i) other.otherwise))
+        | inr o ↦ elim o [ inl less ↦ absurd (passed y.place y.part less other) | inr more ↦ inl more ]
+      ]
 
-  module _ (i : ℕ) (here : i < length moves) (passed : PlacesPassed i) where
-    pub places_in : true ≡ in_set set (i + 1) → PlacesPassed (i + 1)
-    places_in inside = clear-more (λ place part. OtherAt d s t moves set place part) (i + 1) passed (λ part other. both_ways _ other.outside (sym inside))
+  pub no_place : (i : ℕ) → length moves ≤ i → PlacesPassed i → LowestBy row_of (λ x. (x.set ≡ set) × OtherAt d s t moves set x.place x.part) None
+  no_place i end passed = λ y other. passed y.place y.part (omega (arith, other.1.placed.1)) other.1
 
-    pub places_more : ((part : ℕ) → Otherwise d s t (get_or moves i 0) part → ⊥) → PlacesPassed (i + 1)
-    places_more none = clear-more (λ place part. OtherAt d s t moves set place part) (i + 1) passed (λ part other. none part (subst (λ m. Otherwise d s t m part) (move_at-next moves i) other.otherwise))
-
-    pub place_found : (part : ℕ) → false ≡ in_set set (i + 1) → Otherwise d s t (get_or moves i 0) part × ((e : ℕ) → Otherwise d s t (get_or moves i 0) e → NoLater (one part) (one e)) → LowestBy two (λ x. OtherAt d s t moves set x.0 x.1) (Some (i + 1, part))
-    place_found part outside found =
-        found-lowest (λ place part. OtherAt d s t moves set place part) one two (λ x. x.0) (λ x. x.1) (λ x. refl) (i + 1) part (i + 1, part) refl refl passed
-        (record { placed = (omega arith, omega arith); outside = sym outside; otherwise = subst (λ m. Otherwise d s t m part) (sym (move_at-next moves i)) found.0 })
-        (λ e other. found.1 e (subst (λ m. Otherwise d s t m e) (move_at-next moves i) other.otherwise))
-
-  pub no_place : (i : ℕ) → length moves ≤ i → PlacesPassed i → LowestBy two (λ x. OtherAt d s t moves set x.0 x.1) None
-  no_place i end passed = none_found (λ place part. OtherAt d s t moves set place part) one two (λ x. x.0) (λ x. x.1) (λ x. refl) (i + 1) passed (λ place part other. omega (arith, other.placed.1))
+-- at the state that the moves of the set leave
+pub by_set : (d : Depot) (s t u : State) (moves : List ℕ) (set : ℕ) (r : Option Disturbance) → t ≡ u → LowestBy row_of (λ x. (x.set ≡ set) × OtherAt d s t moves set x.place x.part) r → LowestBy row_of (λ x. (x.set ≡ set) × OtherAt d s u moves set x.place x.part) r
+by_set d s t u moves set r is = subst (λ v. LowestBy row_of (λ x. (x.set ≡ set) × OtherAt d s v moves set x.place x.part) r) is
 
 -- how many sets there are: few enough that their number is not cut off
 pub sets_fit : (n : ℕ) → n ≤ 8 → 1 * 2 ^ n % 2 ^ 64 ≡ 2 ^ n
@@ -86,27 +64,24 @@ sets_fit n few =
     ap (λ k. k % 2 ^ 64) (omega arith) ∙ mod-eq_of_lt (omega (arith, most))
 
 -- the sets of places
-module _ (d : Depot) (s : State) (moves : List ℕ) where
-  abbrev pub SetsPassed : ℕ → Type 0
-  SetsPassed i = Clear {X = ℕ × ℕ} (λ set x. SetDisturbs d s moves set x.0 x.1) i
+module _ (d : Depot) (s : State) (moves : List ℕ) (k : ℕ) (count : k ≡ 2 ^ length moves) where
+  -- the lowest disturbance by the first set that has one
+  abbrev pub FirstSet : Option Disturbance → Type 0
+  FirstSet r = MatchOption r ((set : ℕ) → 0 ≤ set → set < k → LowestBy row_of (DisturbsBy d s moves set) None) (λ x. (set : ℕ) × (0 ≤ set) × (set < k) × LowestBy row_of (DisturbsBy d s moves set) (Some x) × ((before : ℕ) → 0 ≤ before → before < set → LowestBy row_of (DisturbsBy d s moves before) None))
 
-  pub sets-none : SetsPassed 0
-  sets-none = clear_none (λ set x. SetDisturbs d s moves set x.0 x.1)
+  by_its_set : (x : Disturbance) → SetDisturbs d s moves x.set x.place x.part → DisturbsBy d s moves x.set x
+  by_its_set x dis = (refl, record { placed = dis.placed; outside = dis.outside; otherwise = dis.otherwise })
 
-  module _ (set : ℕ) (known : set < 2 ^ length moves) (t : State) (left : t ≡ after d s (chosen set moves)) where
-    disturbs : (place part : ℕ) → OtherAt d s t moves set place part → SetDisturbs d s moves set place part
-    disturbs place part other = record { known = known; placed = other.placed; outside = other.outside; otherwise = subst (λ u. Otherwise d s u (move_at moves place) part) left other.otherwise }
+  disturbs : (set : ℕ) (x : Disturbance) → set < k → DisturbsBy d s moves set x → SetDisturbs d s moves x.set x.place x.part
+  disturbs set x known by = subst (λ n. SetDisturbs d s moves n x.place x.part) (sym by.0) (record { known = omega arith; placed = by.1.placed; outside = by.1.outside; otherwise = by.1.otherwise })
 
-    other_at : (place part : ℕ) → SetDisturbs d s moves set place part → OtherAt d s t moves set place part
-    other_at place part dis = record { placed = dis.placed; outside = dis.outside; otherwise = subst (λ u. Otherwise d s u (move_at moves place) part) (sym left) dis.otherwise }
-
-    pub sets_more : SetsPassed set → ((x : ℕ × ℕ) → OtherAt d s t moves set x.0 x.1 → ⊥) → SetsPassed (set + 1)
-    sets_more passed none = clear-more (λ set x. SetDisturbs d s moves set x.0 x.1) set passed (λ x dis. none x (other_at x.0 x.1 dis))
-
-    pub set_found : (place part : ℕ) → SetsPassed set → OtherAt d s t moves set place part × ((y : ℕ × ℕ) → OtherAt d s t moves set y.0 y.1 → NoLater (two (place, part)) (two y)) → LowestBy three (λ x. SetDisturbs d s moves x.0 x.1 x.2) (Some (set, place, part))
-    set_found place part passed found =
-        found-lowest (λ set x. SetDisturbs d s moves set x.0 x.1) two three (λ x. x.0) (λ x. (x.1, x.2)) (λ x. refl) set (place, part) (set, place, part) refl refl passed
-        (disturbs place part found.0) (λ y dis. found.1 y (other_at y.0 y.1 dis))
-
-  pub no_set : (i : ℕ) → 2 ^ length moves ≤ i → SetsPassed i → LowestBy three (λ x. SetDisturbs d s moves x.0 x.1 x.2) None
-  no_set i end passed = none_found (λ set x. SetDisturbs d s moves set x.0 x.1) two three (λ x. x.0) (λ x. (x.1, x.2)) (λ x. refl) i passed (λ set x dis. omega (arith, dis.known))
+  -- is the lowest of all
+  pub set_first : (r : Option Disturbance) → FirstSet r → LowestBy row_of (λ x. SetDisturbs d s moves x.set x.place x.part) r
+  set_first None none = λ x dis. none x.set (omega arith) (omega (arith, dis.known)) x (by_its_set x dis)
+  set_first (Some x) (set, from, known, low, before) = (disturbs set x known low.0, first)
+    where
+      first : (y : Disturbance) → SetDisturbs d s moves y.set y.place y.part → NoLater (row_of x) (row_of y)
+      first y dis = elim (cases_order y.set set) [
+        | inl same ↦ low.1 y (subst (λ n. DisturbsBy d s moves n y) same (by_its_set y dis))
+        | inr o ↦ elim o [ inl less ↦ absurd (before y.set (omega arith) less y (by_its_set y dis)) | inr more ↦ inl (omega (arith, low.0.0)) ]
+      ]

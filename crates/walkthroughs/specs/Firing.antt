@@ -1,12 +1,11 @@
 -- What moves do together, judged at one state. Assumes nothing.
-use Rattle.std.specs.Prelude.{◌≡◌, ℕ, Bool, true, false, cond, not, ◌&&◌, ◌||◌, List, [], ◌∷◌}
-use Rattle.std.specs.List.{flat_map}
+use Rattle.std.specs.Prelude.{◌≡◌, ℕ, Bool, true, cond, not, ◌&&◌, ◌||◌, List, [], ◌∷◌}
+use Rattle.std.specs.List.{flat_map, list_any}
 use Rattle.walkthroughs.specs.Depots.{Depot, Effect, State, effect_of, move_of, truth_of}
 
 -- Some entry of a list passes a test.
 abbrev pub any : {X : Type 0} → (X → Bool) → List X → Bool
-any p [] = false
-any p (x ∷ xs) = p x || any p xs
+any = list_any
 
 -- What an effect has in one of its two lists, if it fires: if its condition is true at the state.
 abbrev pub fires : Depot → State → (Effect → List ℕ) → Effect → List ℕ

@@ -8,6 +8,7 @@ pub mod Laws
 pub mod Lists
 pub mod Marks
 pub mod Mistakes
+pub mod Moments
 pub mod Outcomes
 pub mod Ruled
 pub mod Runs

@@ -1,6 +1,11 @@
 -- The lowest of what is looked for. Assumes nothing.
-use Rattle.std.specs.Prelude.{ℕ, List, [], ◌∷◌, Some, None, Option}
+use Rattle.std.specs.Prelude.{◌≡◌, ℕ, List, [], ◌∷◌, Some, None, Option}
 use Rattle.sheets.specs.Faults.{NoLater}
+use Rattle.walkthroughs.specs.Depots.{Depot, State}
+use Rattle.walkthroughs.specs.Disturbance.{OtherAt}
+use Rattle.walkthroughs.specs.Firing.{after}
+use Rattle.walkthroughs.specs.Sets.{chosen}
+use Rattle.walkthroughs.specs.declared.disturbance.Disturbance.{Disturbance}
 
 -- What is found is wanted, and nothing that is wanted has a lower row of numbers; or nothing is wanted.
 abbrev pub LowestBy : {X : Type 0} → (X → List ℕ) → (X → Type 0) → Option X → Type 0
@@ -19,3 +24,11 @@ three p = p.0 ∷ p.1 ∷ p.2 ∷ []
 
 abbrev pub four : ℕ × ℕ × ℕ × ℕ → List ℕ
 four p = p.0 ∷ p.1 ∷ p.2 ∷ p.3 ∷ []
+
+-- The row of a disturbance: its set, then its place, then its part.
+abbrev pub row_of : Disturbance → List ℕ
+row_of x = three (x.set, x.place, x.part)
+
+-- A disturbance by a set, whether there are so many sets or not.
+abbrev pub DisturbsBy : Depot → State → List ℕ → ℕ → Disturbance → Type 0
+DisturbsBy d s moves set x = (x.set ≡ set) × OtherAt d s (after d s (chosen set moves)) moves set x.place x.part

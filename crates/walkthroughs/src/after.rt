@@ -4,30 +4,28 @@ ghost use Rattle.formulas.specs.Truth.{stands_in};
 ghost use Rattle.walkthroughs.specs.Outcomes.{Together, left_by, picked};
 
 use crate::firing::Outcome;
-use crate::marks::MOST_MARKS;
+use crate::marks::Row;
+use std::array;
 
-// Adds the marks of one row to another.
-fn join(row: &mut [bool; MOST_MARKS], more: &[bool; MOST_MARKS])
-    ensures { (f : ℕ) → stands_in row.new f ≡ (stands_in row.old f || stands_in more.now f) }
+// The marks of two rows in one.
+fn joined(row: &Row, more: &Row) -> Row
+    ensures { (f : ℕ) → stands_in result f ≡ (stands_in row.now f || stands_in more.now f) }
 {
-    for i in 0..MOST_MARKS {
-        row[i] |= more[i];
-    }
+    array::from_fn(|i| row[i] | more[i])
 }
 
 // What the moves at the places of a set do together.
 fn unite(outcomes: &[Outcome], set: usize) -> Outcome
     ensures { Together (picked set outcomes.now) result }
 {
-    let mut all = Outcome {
-        adds: [false; MOST_MARKS],
-        removes: [false; MOST_MARKS],
-    };
+    let mut all = Outcome::nothing();
+    // The set is halved beside its outcomes, as `picked` is defined; to ask for each place whether it is in the set would
+    // halve it anew each time.
     let mut rest = set;
     for outcome in outcomes {
         if rest % 2 == 1 {
-            join(&mut all.adds, &outcome.adds);
-            join(&mut all.removes, &outcome.removes);
+            all.adds = joined(&all.adds, &outcome.adds);
+            all.removes = joined(&all.removes, &outcome.removes);
         }
         rest /= 2;
     }
@@ -35,22 +33,14 @@ fn unite(outcomes: &[Outcome], set: usize) -> Outcome
 }
 
 // The facts that an outcome leaves of those at the start.
-fn left_by(start: &[bool; MOST_MARKS], outcome: &Outcome) -> [bool; MOST_MARKS]
+fn left_by(start: &Row, outcome: &Outcome) -> Row
     ensures { stands_in result ≡ left_by start.now outcome.now }
 {
-    let mut row = [false; MOST_MARKS];
-    for i in 0..MOST_MARKS {
-        row[i] = outcome.adds[i] | (start[i] & !outcome.removes[i]);
-    }
-    row
+    array::from_fn(|i| outcome.adds[i] | (start[i] & !outcome.removes[i]))
 }
 
 // The facts after the moves at the places of a set, judged at the start.
-pub(crate) fn after_set(
-    start: &[bool; MOST_MARKS],
-    outcomes: &[Outcome],
-    set: usize,
-) -> [bool; MOST_MARKS]
+pub(crate) fn after_set(start: &Row, outcomes: &[Outcome], set: usize) -> Row
     ensures { (o : Outcome) × Together (picked set outcomes.now) o × (stands_in result ≡ left_by start.now o) }
 {
     left_by(start, &unite(outcomes, set))

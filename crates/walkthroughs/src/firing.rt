@@ -1,99 +1,80 @@
 // What each move of a step adds and removes, judged once at the step's start.
-ghost use Rattle.std.specs.Prelude.{◌≡◌, ℕ, ◌≤◌, ◌||◌, length};
+ghost use Rattle.std.specs.Prelude.{◌≡◌, ℕ, Bool, ◌||◌, []};
 ghost use Rattle.depots.specs.Tables.{tables_of};
 ghost use Rattle.formulas.specs.Truth.{stands_in};
 ghost use Rattle.walkthroughs.specs.Firing.{any};
-ghost use Rattle.walkthroughs.specs.Kinds.{carries_among};
-ghost use Rattle.walkthroughs.specs.Outcomes.{IsOutcome, WithEffect};
-ghost use Rattle.walkthroughs.specs.Ruled.{effect_kept, ruled};
+ghost use Rattle.walkthroughs.specs.Kinds.{MarksBy, carries_among};
+ghost use Rattle.walkthroughs.specs.Moments.{depot_of, state_of};
+ghost use Rattle.walkthroughs.specs.Outcomes.{IsOutcome, Together, WithEffect};
+ghost use Rattle.walkthroughs.specs.Ruled.{effect_kept};
 
-use crate::marks::MOST_MARKS;
-use crate::parts::is_true;
-use depots::depot::{Depot, Effect};
+use crate::marks::{MOST_MARKS, Row};
+use crate::moment::Moment;
+use depots::depot::Effect;
 use facts::added_marks::{add_carried, add_carriers};
 use facts::kinds::Kind;
 
-// The facts that the fired effects of a move add, and those that they remove, as rows: the mark at index f - 1 is that of
-// fact f.
+// The facts that the fired effects of a move add, and those that they remove. Rows of marks hold them, since no call of a
+// walkthrough may allocate.
 #[derive(Clone, Copy)]
 pub struct Outcome {
-    pub(crate) adds: [bool; MOST_MARKS],
-    pub(crate) removes: [bool; MOST_MARKS],
+    pub(crate) adds: Row,
+    pub(crate) removes: Row,
 }
 
-// Marks the listed facts that the fact of a number carries.
-fn mark_from<K: Kind>(facts: &[K::Fact], number: usize, row: &mut [bool; MOST_MARKS])
-    requires { length facts.now ≤ 128 }
-    ensures { (f : ℕ) → stands_in row.new f ≡ (stands_in row.old f || carries_among K.carrying facts.now number f) }
-{
-    if number == 0 || number > facts.len() {
-        return;
-    }
-    add_carried::<K>(facts, &facts[number - 1], row);
-}
-
-// Marks the listed facts that carry the fact of a number.
-fn mark_to<K: Kind>(facts: &[K::Fact], number: usize, row: &mut [bool; MOST_MARKS])
-    requires { length facts.now ≤ 128 }
-    ensures { (f : ℕ) → stands_in row.new f ≡ (stands_in row.old f || carries_among K.carrying facts.now f number) }
-{
-    if number == 0 || number > facts.len() {
-        return;
-    }
-    add_carriers::<K>(facts, &facts[number - 1], row);
-}
-
-// Marks the listed facts that any of some facts carries.
-pub(crate) fn mark_from_all<K: Kind>(
-    facts: &[K::Fact],
-    numbers: &[usize],
-    row: &mut [bool; MOST_MARKS],
-)
-    requires { length facts.now ≤ 128 }
-    ensures { (f : ℕ) → stands_in row.new f ≡ (stands_in row.old f || any (λ g. carries_among K.carrying facts.now g f) numbers.now) }
-{
-    for number in numbers {
-        mark_from::<K>(facts, *number, row);
+impl Outcome {
+    // No fact is added and none removed.
+    pub(crate) fn nothing() -> Outcome
+        ensures { Together [] result }
+    {
+        Outcome {
+            adds: [false; MOST_MARKS],
+            removes: [false; MOST_MARKS],
+        }
     }
 }
 
-// Marks the listed facts that carry any of some facts.
-fn mark_to_all<K: Kind>(facts: &[K::Fact], numbers: &[usize], row: &mut [bool; MOST_MARKS])
-    requires { length facts.now ≤ 128 }
-    ensures { (f : ℕ) → stands_in row.new f ≡ (stands_in row.old f || any (λ g. carries_among K.carrying facts.now f g) numbers.now) }
-{
-    for number in numbers {
-        mark_to::<K>(facts, *number, row);
+impl<K: Kind> Moment<'_, K> {
+    // Marks what `mark` marks by each listed fact of some numbers.
+    fn mark_by<M: Fn(&K::Fact, &mut Row)>(&self, numbers: &[usize], mark: M, row: &mut Row)
+        requires { M.IsAlwaysCallable mark }
+        ensures { (by : K.Fact → K.Fact → Bool) → MarksBy by (tables_of self.now.depot.now).facts (λ fact marks after. M.post mark fact marks tt after) → (f : ℕ) → stands_in row.new f ≡ (stands_in row.old f || any (λ g. carries_among by (tables_of self.now.depot.now).facts g f) numbers.now) }
+    {
+        for number in numbers {
+            if let Some(fact) = self.depot.fact_at(*number) {
+                mark(fact, row);
+            }
+        }
     }
-}
 
-// Adds what an effect does, if it fires.
-fn fire_effect<K: Kind>(
-    depot: &Depot<K>,
-    start: &[bool; MOST_MARKS],
-    effect: &Effect,
-    outcome: &mut Outcome,
-)
-    ensures { WithEffect (ruled K.carrying (tables_of depot.now)) (stands_in start.now) (effect_kept effect.now) outcome.old outcome.new }
-{
-    if !is_true(depot, start, effect.condition()) {
-        return;
+    // Adds what an effect does, if it fires.
+    fn fire_effect(&self, effect: &Effect, outcome: &mut Outcome)
+        ensures { WithEffect (depot_of self.now) (state_of self.now) (effect_kept effect.now) outcome.old outcome.new }
+    {
+        if !self.is_true(effect.condition()) {
+            return;
+        }
+        let facts = self.depot.facts();
+        self.mark_by(
+            effect.settings(),
+            |fact, row| add_carried::<K>(facts, fact, row),
+            &mut outcome.adds,
+        );
+        self.mark_by(
+            effect.strikes(),
+            |fact, row| add_carriers::<K>(facts, fact, row),
+            &mut outcome.removes,
+        );
     }
-    let facts = depot.facts();
-    mark_from_all::<K>(facts, effect.settings(), &mut outcome.adds);
-    mark_to_all::<K>(facts, effect.strikes(), &mut outcome.removes);
-}
 
-// What the fired effects of a move do.
-pub(crate) fn fire<K: Kind>(depot: &Depot<K>, start: &[bool; MOST_MARKS], number: usize) -> Outcome
-    ensures { IsOutcome (ruled K.carrying (tables_of depot.now)) (stands_in start.now) number result }
-{
-    let mut outcome = Outcome {
-        adds: [false; MOST_MARKS],
-        removes: [false; MOST_MARKS],
-    };
-    for effect in depot.effects_of(number) {
-        fire_effect(depot, start, effect, &mut outcome);
+    // What the fired effects of a move do.
+    pub(crate) fn fire(&self, number: usize) -> Outcome
+        ensures { IsOutcome (depot_of self.now) (state_of self.now) number result }
+    {
+        let mut outcome = Outcome::nothing();
+        for effect in self.depot.effects_of(number) {
+            self.fire_effect(effect, &mut outcome);
+        }
+        outcome
     }
-    outcome
 }

@@ -8,6 +8,7 @@ pub mod firing;
 pub mod kinds;
 pub mod laws;
 pub mod marks;
+mod moment;
 mod parts;
 mod rows;
 pub mod worked;

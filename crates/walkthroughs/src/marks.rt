@@ -1,14 +1,26 @@
 // Which of 128 facts stand. What is promised of marks is `standing` alone, so that their inside can change.
-ghost use Rattle.std.specs.Prelude.{◌≡◌};
-ghost use Rattle.walkthroughs.specs.Marks.{none_stand, standing, turned};
+ghost use Rattle.std.specs.Prelude.{◌≡◌, ◌-◌, IsTrue};
+ghost use Rattle.std.specs.Option.{SomeIff};
+ghost use Rattle.walkthroughs.specs.Marks.{is_markable, none_stand, standing, turned};
 
 // How many facts marks can have.
 pub const MOST_MARKS: usize = 128;
 
-// Which facts stand, by number.
+// Which facts stand, as marks: the one at index f - 1 is that of fact f.
+pub(crate) type Row = [bool; MOST_MARKS];
+
+// Which facts stand, by number. They are seen by `standing` and not by a model: the value of a model needs a code, and which
+// facts stand, a function, has one only by a proof that is longer than all that is promised here.
 #[derive(Drop)]
 pub struct Marks {
-    on: [bool; MOST_MARKS],
+    on: Row,
+}
+
+// The index of the mark of a number, counted from 1, if it has one.
+fn index_of(number: usize) -> Option<usize>
+    ensures { SomeIff result (IsTrue (is_markable number)) (number - 1) }
+{
+    number.checked_sub(1).filter(|i| *i < MOST_MARKS)
 }
 
 impl Marks {
@@ -25,19 +37,18 @@ impl Marks {
     pub fn stands(&self, number: usize) -> bool
         ensures { result ≡ standing self.now number }
     {
-        if number == 0 || number > MOST_MARKS {
-            return false;
+        match index_of(number) {
+            Some(i) => self.on[i],
+            None => false,
         }
-        self.on[number - 1]
     }
 
     // Turns the standing of one fact round. A number outside 1 to 128 turns nothing.
     pub fn turn(&mut self, number: usize)
         ensures { standing self.new ≡ turned (standing self.old) number }
     {
-        if number == 0 || number > MOST_MARKS {
-            return;
+        if let Some(i) = index_of(number) {
+            self.on[i] = !self.on[i];
         }
-        self.on[number - 1] = !self.on[number - 1];
     }
 }

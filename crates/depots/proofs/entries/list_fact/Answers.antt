@@ -1,36 +1,51 @@
-use Rattle.std.proofs.Common.{◌≡◌, leb, [], ◌∷◌, None, Ok, vec_items, vec_len, sym, refl, ap, ◌∙◌, subst, inl, inr}
+use Rattle.std.proofs.Common.{◌≡◌, leb, [], ◌∷◌, ◌++◌, None, Ok, vec_items, vec_len, sym, refl, ap, ◌∙◌, subst, inl, inr}
+use Rattle.std.specs.Result.{result_err}
+use Rattle.sheets.specs.declared.refusals.Refusal.TheVariants.{NoMemory}
 use Rattle.sheets.specs.Faults.{Lowest}
 use Rattle.depots.specs.Fields.{new_fact}
-use Rattle.depots.specs.Troubles.{trouble_in, LineFault, Faultless}
+use Rattle.depots.specs.Troubles.{Faultless, LineFault}
 use Rattle.depots.proofs.Fieldwise.{faultless_at}
-use Rattle.depots.proofs.Grown.{grown, not_grown, popped}
+use Rattle.depots.proofs.Grown.{grown}
+use Rattle.depots.proofs.Returned.{only_told, read_fine, handed_on}
 use Rattle.depots.proofs.entries.list_fact.Given as given
 use Rattle.depots.proofs.entries.list_fact.Goals as goal
-use Rattle.depots.proofs.entries.list_fact.Goals.{In_ok-judged-in-Ok}
+use Rattle.depots.proofs.entries.list_fact.Goals.{In_ok-judged}
 
 -- what was read, of the facts that were listed
-read : (g : given.Over) (c : In_ok-judged-in-Ok g) → Ok c.in-Ok.fact ≡ new_fact g.K.Kind.alike g.K.Kind.certain (g.K.Kind.reading c.args.names.now c.args.text.now) (vec_items c.args.facts.now)
-read g c = c.in-Ok.ensures ∙ ap (new_fact g.K.Kind.alike g.K.Kind.certain (g.K.Kind.reading c.args.names.now c.args.text.now)) c.deref.ensures.value
+module _ (g : given.Over) (c : In_ok-judged g) where
+  listed : new_fact g.K.Kind.alike g.K.Kind.certain (g.K.Kind.reading c.args.names.now c.args.text.now) c.as_slice.result.now ≡ new_fact g.K.Kind.alike g.K.Kind.certain (g.K.Kind.reading c.args.names.now c.args.text.now) (vec_items c.args.facts.now)
+  listed = ap (new_fact g.K.Kind.alike g.K.Kind.certain (g.K.Kind.reading c.args.names.now c.args.text.now)) c.as_slice.ensures.value
+
+  read : new_fact g.K.Kind.alike g.K.Kind.certain (g.K.Kind.reading c.args.names.now c.args.text.now) (vec_items c.args.facts.now) ≡ Ok c.in_ok-fact.fact
+  read = sym (c.new_fact.ensures ∙ listed) ∙ read_fine c.new_fact.result c.map_err.result c.in_ok-fact.fact c.map_err.ensures.cases c.in_ok-fact.was
 
 -- the line that was judged is at no fault
-right : (g : given.Over) (c : In_ok-judged-in-Ok g) → Faultless (trouble_in (new_fact g.K.Kind.alike g.K.Kind.certain (g.K.Kind.reading c.args.names.now c.args.text.now) (vec_items c.args.facts.now)) ∷ None ∷ None ∷ []) (leb 128 (vec_len c.args.facts.now))
-right g c = faultless_at None _ c.len.result _ 128 (ap trouble_in (read g c)) c.len.ensures c.in_ok-judged-in-Ok.ensures
+right : (g : given.Over) (c : In_ok-judged g) → Faultless (result_err (new_fact g.K.Kind.alike g.K.Kind.certain (g.K.Kind.reading c.args.names.now c.args.text.now) (vec_items c.args.facts.now)) ∷ None ∷ None ∷ []) (leb 128 (vec_len c.args.facts.now))
+right g c = faultless_at None _ c.len.result _ 128 (sym (ap result_err (read g c))) c.len.ensures c.in_ok-judged.ensures
 
-pub returns-then-is_err : goal.returns-then-is_err
-returns-then-is_err g c =
-    (inl (refl, right g (goal.at.returns-then-is_err g c).In_ok-judged-in-Ok), (not_grown (vec_items c.args.facts.now) (vec_items c.push.new.self) c.in-Ok.fact c.push.result c.push.ensures.items c.if-is_err.ensures.value, refl))
+pub returns-in_err-fact : goal.returns-in_err-fact
+returns-in_err-fact g c =
+    let w = c.in_err-fact.field-0.0 in
+    let full = leb 128 (vec_len c.args.facts.now) in
+    let listed = ap (new_fact g.K.Kind.alike g.K.Kind.certain (g.K.Kind.reading c.args.names.now c.args.text.now)) c.as_slice.ensures.value in
+    rw (handed_on c.from_residual.result w c.from_residual.ensures.1) (inr (subst (λ t. Lowest (LineFault (result_err t ∷ None ∷ None ∷ []) full) w) (c.new_fact.ensures ∙ listed) (only_told c.new_fact.result c.map_err.result w c.map_err.ensures.cases c.in_err-fact.was full)), (refl, refl))
 
-pub returns-then-not-push_text : goal.returns-then-not-push_text
-returns-then-not-push_text g c =
-    let longer = grown (vec_items c.args.facts.now) (vec_items c.push.new.self) c.in-Ok.fact c.push.result c.push.ensures.items c.if-is_err.ensures.value in
-    (inl (refl, right g (goal.at.returns-then-not-push_text g c).In_ok-judged-in-Ok), (popped (vec_items c.args.facts.now) (vec_items c.push.new.self) _ c.in-Ok.fact (vec_len c.push.new.self) longer c.push.new.self.ok.0 c.pop.ensures.rest, c.if-not-push_text.ensures))
+pub returns-in_err-name : goal.returns-in_err-name
+returns-in_err-name g c =
+    rw (handed_on c.from_residual-in_err-name.result NoMemory c.from_residual-in_err-name.ensures.1) (inl (refl, right g (goal.at.returns-in_err-name g c).In_ok-judged), (refl, refl))
 
-pub returns-in-Err : goal.returns-in-Err
-returns-in-Err g c =
-    let told = ap trouble_in (c.in-Err.ensures ∙ ap (new_fact g.K.Kind.alike g.K.Kind.certain (g.K.Kind.reading c.args.names.now c.args.text.now)) c.deref.ensures.value) in
-    (inr (subst (λ t. Lowest (LineFault (t ∷ None ∷ None ∷ []) (leb 128 (vec_len c.args.facts.now))) c.only.result) told (c.only.ensures (leb 128 (vec_len c.args.facts.now)))), (refl, refl))
+pub returns-in_err-reserve : goal.returns-in_err-reserve
+returns-in_err-reserve g c =
+    rw (handed_on c.from_residual-in_err-reserve.result NoMemory c.from_residual-in_err-reserve.ensures.1) (inl (refl, right g (goal.at.returns-in_err-reserve g c).In_ok-judged), (refl, c.reserve.ensures.items))
 
-pub returns-else-not-push_text : goal.returns-else-not-push_text
-returns-else-not-push_text g c =
-    let at = (goal.at.returns-else-not-push_text g c).In_ok-judged-in-Ok in
-    (right g at, (c.in-Ok.fact, sym (read g at), grown (vec_items c.args.facts.now) (vec_items c.push.new.self) c.in-Ok.fact c.push.result c.push.ensures.items c.if-is_err.ensures.value, c.if-not-push_text.ensures))
+pub returns-in_err-push : goal.returns-in_err-push
+returns-in_err-push g c =
+    rw (handed_on c.from_residual-in_err-push.result NoMemory c.from_residual-in_err-push.ensures.1) (inl (refl, right g (goal.at.returns-in_err-push g c).In_ok-judged), (c.in_err-push.ensures.items, c.reserve.ensures.items))
+
+pub returns : goal.returns
+returns g c =
+    let at = (goal.at.returns g c).In_ok-judged in
+    let texts = vec_items c.args.texts.now in
+    let longer = grown (vec_items c.reserve.new.self) (vec_items c.push-2.new.self) c.in_ok-name.name c.push-2.result _ c.push-2.ensures.items c.unwrap.ensures in
+    let spelled = longer ∙ ap (λ l. l ++ c.in_ok-name.name ∷ []) c.reserve.ensures.items ∙ ap (λ t. texts ++ t ∷ []) c.in_ok-name.ensures in
+    (right g at, (c.in_ok-fact.fact, read g at, c.in_ok-push.ensures.items, spelled))

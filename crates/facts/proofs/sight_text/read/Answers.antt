@@ -1,14 +1,24 @@
-use Rattle.std.proofs.Common.{◌≡◌, map, Some, sym, ap, ◌∙◌}
-use Rattle.sheets.specs.Listed.{text_of, place_of}
-use Rattle.facts.specs.Parts.{parts_of, watchers_in}
+use Rattle.std.proofs.Common.{◌≡◌, Err, sym, ◌∙◌, rules}
+use Rattle.facts.specs.declared.names.NoFact.TheVariants.{NotListed}
 use Rattle.facts.specs.Texts.{zones_of, matters_of}
-use Rattle.facts.proofs.Readings.{reads}
+use Rattle.facts.proofs.Readings.{unlisted_watchers, unlisted_matter, both_listed}
 use Rattle.facts.proofs.sight_text.read.Goals as goal
 
-pub returns-in-Some-find : goal.returns-in-Some-find
-returns-in-Some-find c =
-    let put = c.in-Some.ensures.1 in
-    let zones : map text_of c.deref.result.now ≡ zones_of c.args.names.now = ap (map text_of) c.deref.ensures.value in
-    let matters : map text_of c.deref-2.result.now ≡ matters_of c.args.names.now = ap (map text_of) c.deref-2.ensures.value in
-    let found : Some c.in-Some-find.matter ≡ place_of c.last_part.result.now (map text_of c.deref-2.result.now) = c.in-Some-find.ensures in
-    reads (zones_of c.args.names.now) (matters_of c.args.names.now) c.args.text.now put.0 _ c.in-Some.count c.in-Some-find.matter _ (sym c.if-not-has_form.ensures) (sym (ap (λ z. watchers_in z (parts_of c.args.text.now)) zones) ∙ put.1) put.2 put.3 (found ∙ ap (place_of c.last_part.result.now) matters ∙ ap (λ p. place_of p (matters_of c.args.names.now)) c.last_part.ensures)
+pub returns-in_err-watchers : goal.returns-in_err-watchers
+returns-in_err-watchers c =
+    let told : c.from_residual.result ≡ Err NotListed = search rules in
+    let named = rw c.deref.ensures.value at c.listed_watchers.ensures in
+    told ∙ unlisted_watchers (zones_of c.args.names.now) (matters_of c.args.names.now) c.args.text.now _ c.cut_last.result.1.now (sym c.has_form.ensures ∙ c.if-not-has_form.false) c.cut_last.ensures (sym c.in_err-watchers.ensures.ok_part ∙ named)
+
+pub returns-in_err-matter : goal.returns-in_err-matter
+returns-in_err-matter c =
+    let told : c.from_residual-in_err-matter.result ≡ Err NotListed = search rules in
+    let named = rw c.deref.ensures.value at c.listed_watchers.ensures in
+    let found = rw c.deref-2.ensures.value at c.find.ensures in
+    told ∙ unlisted_matter (zones_of c.args.names.now) (matters_of c.args.names.now) c.args.text.now _ c.cut_last.result.1.now (sym c.has_form.ensures ∙ c.if-not-has_form.false) c.cut_last.ensures c.in_ok-watchers.watchers (sym c.in_ok-watchers.ensures.ok_part ∙ named) (sym c.in_err-matter.ensures.ok_part ∙ found)
+
+pub returns : goal.returns
+returns c =
+    let named = rw c.deref.ensures.value at c.listed_watchers.ensures in
+    let found = rw c.deref-2.ensures.value at c.find.ensures in
+    both_listed (zones_of c.args.names.now) (matters_of c.args.names.now) c.args.text.now _ c.cut_last.result.1.now (sym c.has_form.ensures ∙ c.if-not-has_form.false) c.cut_last.ensures c.in_ok-watchers.watchers (sym c.in_ok-watchers.ensures.ok_part ∙ named) c.in_ok-matter.matter (sym c.in_ok-matter.ensures.ok_part ∙ found)

@@ -1,13 +1,9 @@
-use Rattle.facts.specs.declared.sighted.Watcher.TheVariants.{All}
-use Rattle.facts.proofs.Idleness.{idle-here, idle-more, idle-all}
+use Rattle.std.proofs.Common.{◌∙◌, rules}
+use Rattle.std.proofs.lemmas.Iterator.Search.{any_from_yields_List}
+use borrow.Author.Tests.{tests}
+use Rattle.facts.proofs.Idleness.{adds_none, any_pair, windows_of_two}
 use Rattle.facts.proofs.watchers.is_idle.Goals as goal
 
-pub loop-i-preserved : goal.loop-i-preserved
-loop-i-preserved c = idle-more c.args.watchers.now c.loop-i.i All c.loop-i.invariant c.loop-i.auto.i c.loop-i-test.true c.if-adds_nothing.ensures
-
-pub returns-then-adds_nothing : goal.returns-then-adds_nothing
-returns-then-adds_nothing c =
-    idle-here c.args.watchers.now c.loop-i.i All c.loop-i.invariant c.loop-i.auto.i c.loop-i-test.true c.if-adds_nothing.ensures
-
 pub returns : goal.returns
-returns c = idle-all c.args.watchers.now c.loop-i.i All c.loop-i.invariant c.loop-i.auto.i c.loop-i-test.false
+returns c =
+    any_from_yields_List adds_none _ _ c.any.result c.any.ensures.ran (windows_of_two c.args.watchers.now c.array_windows.ensures.rest c.array_windows.ensures.size) (λ x b q k. search (rules, tests)) ∙ any_pair c.args.watchers.now

@@ -1,21 +1,16 @@
-use Rattle.std.proofs.Common.{sym, ◌∙◌, arith}
-use Rattle.std.proofs.lemmas.List.{at_drop_all, at_drop_more}
-use Rattle.std.proofs.lemmas.Bool.{cond-true, cond-false}
-use Rattle.formulas.specs.Marks.{run}
+use Rattle.std.proofs.Common.{◌≡◌, ℕ, ◌≤◌, Some, None, length, cond, ltb, ap, ◌∙◌, arith, rules, tests}
+use Rattle.std.specs.Option.{unwrap_or}
+use Rattle.std.proofs.lemmas.Bool.Decides.{nat_tests}
+use Rattle.std.proofs.lemmas.Iterator.{YieldsList-from_slice}
+use Rattle.std.proofs.lemmas.Iterator.Search.{position_from_yields_List}
+use Rattle.std.proofs.lemmas.List.Sums.{prefix_len-le-length}
+use Rattle.formulas.specs.Spelling.{is_mark}
 use Rattle.formulas.proofs.marks.before_mark.Goals as goal
 
-pub returns-then-is_mark : goal.returns-then-is_mark
-returns-then-is_mark c = record {
-  value = omega (arith, c.loop-i.invariant, at_drop_more run c.args.text.now c.loop-i.i 0 c.loop-i-test.true ∙ cond-true _ _ _ (sym c.if-is_mark.ensures));
-  within = omega arith;
-}
+or_end : (n l : ℕ) → n ≤ l → unwrap_or (cond (ltb n l) (Some n) None) l ≡ n
+or_end n l h = grind (arith, nat_tests)
 
-pub loop-i-preserved : goal.loop-i-preserved
-loop-i-preserved c =
-    omega (arith, c.loop-i.invariant, at_drop_more run c.args.text.now c.loop-i.i 0 c.loop-i-test.true ∙ cond-false _ _ _ (sym c.if-is_mark.ensures))
-
-pub returns : goal.returns
-returns c = record {
-  value = omega (arith, c.loop-i.invariant, at_drop_all run c.args.text.now c.loop-i.i c.loop-i-test.false);
-  within = omega arith;
-}
+pub returns-clause-value : goal.returns-clause-value
+returns-clause-value c =
+    let found = position_from_yields_List is_mark _ _ c.position.result c.position.ensures.ran (YieldsList-from_slice c.args.text.now cc) (λ x b q k. search (rules, tests)) in
+    c.unwrap_or.ensures ∙ ap (λ r. unwrap_or r (length c.args.text.now)) found ∙ or_end _ _ (prefix_len-le-length _ c.args.text.now)

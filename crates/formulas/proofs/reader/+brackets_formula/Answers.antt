@@ -1,50 +1,56 @@
-use Rattle.std.proofs.Common.{◌<◌, arith}
+use Rattle.std.proofs.Common.{◌<◌, ◌-◌, length, take, drop, arith, rules}
 use Rattle.std.proofs.lemmas.Result.{err_from_is_err_and}
-use Rattle.formulas.specs.Shapes.{texted, texted_all}
-use Rattle.formulas.proofs.Exits.{fact_answers, refused_turn, refused_bracket, refused_first, refused_others, joined-shapes}
-use Rattle.formulas.proofs.Steps.{bracketed, carried_on, broken_off, left-fits}
+use Rattle.std.proofs.lemmas.Grind.{common_steps}
+use Rattle.formulas.proofs.Exits.{fact_answers, refused_turn, refused_bracket}
+use Rattle.formulas.proofs.InBrackets.{not_read, one_read, all_read, neither}
+use Rattle.formulas.proofs.Steps.{turned, bracketed, no_formulas}
+use Rattle.formulas.proofs.Trees.{shape_of_not, shape_of_all}
 use Rattle.formulas.proofs.reader.+brackets_formula.Goals as goal
 
 pub brackets-returns-in_err-one : goal.brackets-returns-in_err-one
 brackets-returns-in_err-one t c =
     let p = err_from_is_err_and c.from_residual.result c.from_residual.ensures.1 in
-    rw (p.1, p.2) (refused_first c.args.depth c.args.text.now _ c.in_err-one.ensures)
+    rw (p.1, p.2) (not_read c.loop-all.invariant _ c.in_err-one.ensures)
 
-pub brackets-brackets-requires : goal.brackets-brackets-requires
-brackets-brackets-requires t c =
-    let shorter = left-fits c.args.depth c.args.text.now (texted c.in_ok-one.one) c.in_ok-one.after.now c.in_ok-one.ensures c.in-And.next.now c.in-And.ensures in
-    (omega (arith, shorter, c.decreases), tt)
+pub brackets-loop-all-preserved : goal.brackets-loop-all-preserved
+brackets-loop-all-preserved t c =
+    rw c.in_ok-push.ensures.items (one_read c.loop-all.invariant c.in_ok-one.one c.in_ok-one.after.now c.in_ok-one.ensures _ (grind (arith, common_steps)))
 
-pub brackets-returns-in_err-others-in-And : goal.brackets-returns-in_err-others-in-And
-brackets-returns-in_err-others-in-And t c =
-    let p = err_from_is_err_and c.from_residual-in_err-others-in-And.result c.from_residual-in_err-others-in-And.ensures.1 in
-    rw (p.1, p.2) (refused_others c.args.depth c.args.text.now (texted c.in_ok-one.one) c.in_ok-one.after.now c.in-And.next.now _ c.in_ok-one.ensures c.in-And.ensures c.in_err-others-in-And.ensures)
+pub brackets-returns-in-41 : goal.brackets-returns-in-41
+brackets-returns-in-41 t c =
+    rw c.in_ok-push.ensures.items (all_read c.loop-all.invariant c.in_ok-one.one c.in_ok-one.after.now c.in_ok-one.ensures _ (grind (arith, common_steps)))
 
-pub brackets-returns-in-And : goal.brackets-returns-in-And
-brackets-returns-in-And t c =
-    rw (joined-shapes (λ l. l.now) c.in_ok-one.one c.in_ok-others-in-And.others c.in_ok-joined-in-And.field-0 c.in_ok-joined-in-And.ensures) (carried_on c.args.depth c.args.text.now (texted c.in_ok-one.one) c.in_ok-one.after.now c.in_ok-one.ensures c.in-And.next.now c.in-And.ensures (texted_all c.in_ok-others-in-And.others) c.in_ok-others-in-And.rest.now c.in_ok-others-in-And.ensures)
+pub brackets-returns-in_default : goal.brackets-returns-in_default
+brackets-returns-in_default t c =
+    neither c.loop-all.invariant c.in_ok-one.one c.in_ok-one.after.now c.in_ok-one.ensures (λ rest e. search rules) (λ rest e. search rules)
 
-pub brackets-returns : goal.brackets-returns
-brackets-returns t c =
-    broken_off c.args.depth c.args.text.now (texted c.in_ok-one.one) c.in_ok-one.after.now c.in_ok-one.ensures c.in-Other.ensures.0 c.in-Other.ensures.1
+pub formula-returns-in_err-inner-in-33 : goal.formula-returns-in_err-inner-in-33
+formula-returns-in_err-inner-in-33 t c =
+    let p = err_from_is_err_and c.from_residual-in_err-inner-in-33.result c.from_residual-in_err-inner-in-33.ensures.1 in
+    let deep : 0 < c.args.depth = omega (arith, c.if-depth-eq0.false) in
+    rw (p.1, p.2) (refused_turn c.args.depth c.args.text.now (take (length c.args.text.now - 1) (drop 1 c.args.text.now)) _ deep (grind (arith, common_steps)) c.in_err-inner-in-33.ensures)
 
-pub formula-returns-in_err-inner-in-Turn : goal.formula-returns-in_err-inner-in-Turn
-formula-returns-in_err-inner-in-Turn t c =
+pub formula-returns-in_ok-new-in-33 : goal.formula-returns-in_ok-new-in-33
+formula-returns-in_ok-new-in-33 t c =
+    let deep : 0 < c.args.depth = omega (arith, c.if-depth-eq0.false) in
+    rw (shape_of_not (λ l. l.now) c.in_ok-new-in-33.field-0, c.in_ok-new-in-33.ensures.ok) (turned _ _ _ deep (grind (arith, common_steps)) _ _ c.in_ok-inner-in-33.ensures)
+
+pub formula-returns-in-40 : goal.formula-returns-in-40
+formula-returns-in-40 t c =
+    let deep : 0 < c.args.depth = omega (arith, c.if-depth-eq0.false) in
+    rw (shape_of_all (λ l. l.now) c.new.result, c.new.ensures.items) (no_formulas _ _ _ deep (grind (arith, common_steps)))
+
+pub formula-returns-in_err-inner-in-40-2 : goal.formula-returns-in_err-inner-in-40-2
+formula-returns-in_err-inner-in-40-2 t c =
     let p = err_from_is_err_and c.from_residual.result c.from_residual.ensures.1 in
     let deep : 0 < c.args.depth = omega (arith, c.if-depth-eq0.false) in
-    rw (p.1, p.2) (refused_turn c.args.depth c.args.text.now c.in-Turn.after.now _ deep c.in-Turn.ensures c.in_err-inner-in-Turn.ensures)
+    rw (p.1, p.2) (refused_bracket c.args.depth c.args.text.now (take (length c.args.text.now - 1) (drop 1 c.args.text.now)) _ deep (grind (arith, common_steps)) (λ rest e. grind (arith, common_steps)) c.in_err-inner-in-40-2.ensures)
 
-pub formula-returns-in_err-inner-in-Bracket : goal.formula-returns-in_err-inner-in-Bracket
-formula-returns-in_err-inner-in-Bracket t c =
-    let p = err_from_is_err_and c.from_residual-in_err-inner-in-Bracket.result c.from_residual-in_err-inner-in-Bracket.ensures.1 in
+pub formula-returns-in_ok-inner-in-40-2 : goal.formula-returns-in_ok-inner-in-40-2
+formula-returns-in_ok-inner-in-40-2 t c =
     let deep : 0 < c.args.depth = omega (arith, c.if-depth-eq0.false) in
-    rw (p.1, p.2) (refused_bracket c.args.depth c.args.text.now c.in-Bracket.after.now _ deep c.in-Bracket.ensures.0 c.in-Bracket.ensures.1 c.in_err-inner-in-Bracket.ensures)
+    rw (shape_of_all (λ l. l.now) c.in_ok-inner-in-40-2.inner) (bracketed _ _ _ deep (grind (arith, common_steps)) _ _ c.in_ok-inner-in-40-2.ensures)
 
-pub formula-returns-in_ok-boxed-in-Bracket : goal.formula-returns-in_ok-boxed-in-Bracket
-formula-returns-in_ok-boxed-in-Bracket t c =
-    let deep : 0 < c.args.depth = omega (arith, c.if-depth-eq0.false) in
-    rw c.in_ok-boxed-in-Bracket.ensures (bracketed c.args.depth c.args.text.now c.in-Bracket.after.now deep c.in-Bracket.ensures.0 (texted_all c.in_ok-inner-in-Bracket.inner) c.in_ok-inner-in-Bracket.rest.now c.in_ok-inner-in-Bracket.ensures)
-
-pub formula-returns-in-Other : goal.formula-returns-in-Other
-formula-returns-in-Other t c =
-    fact_answers c.args.depth c.args.text.now c.fact-in-Other.result c.in-Other.ensures.0 c.in-Other.ensures.1 c.fact-in-Other.ensures
+pub formula-returns-in_default : goal.formula-returns-in_default
+formula-returns-in_default t c =
+    fact_answers c.args.depth c.args.text.now c.fact-in_default.result (λ rest e. search rules) (λ rest e. search rules) c.fact-in_default.ensures

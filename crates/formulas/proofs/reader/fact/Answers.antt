@@ -1,12 +1,11 @@
-use Rattle.std.proofs.Common.{sym, ◌∙◌}
-use native.Mathlib.Nat.{sub-zero}
-use Rattle.std.proofs.lemmas.List.{take_rest}
+use Rattle.std.proofs.Common.{arith}
 use Rattle.formulas.proofs.Steps.{fact_here, no_fact_here}
+use Rattle.formulas.proofs.Trees.{shape_of_fact}
 use Rattle.formulas.proofs.reader.fact.Goals as goal
 
-pub returns-then-n-eq0 : goal.returns-then-n-eq0
-returns-then-n-eq0 c = no_fact_here c.args.text.now (sym c.before_mark-n.ensures.value ∙ c.if-n-eq0.true)
+pub returns-in-empty-default : goal.returns-in-empty-default
+returns-in-empty-default c = no_fact_here c.args.text.now (omega arith)
 
-pub returns : goal.returns
-returns c =
-    rw (take_rest c.args.text.now c.before_mark-n.result, sub-zero, c.before_mark-n.ensures.value) (fact_here c.args.text.now (λ e. c.if-n-eq0.false (c.before_mark-n.ensures.value ∙ e)))
+pub returns-in_default : goal.returns-in_default
+returns-in_default c =
+    rw (shape_of_fact (λ l. l.now) c.split_at.result.0, c.split_at.ensures.front, c.split_at.ensures.back, c.before_mark.ensures.value) (fact_here c.args.text.now (λ none. omega arith))

@@ -1,20 +1,24 @@
-use Rattle.std.proofs.Common.{◌≡◌, arith}
-use Rattle.sheets.proofs.Rows.{line-here, line-past, line-passed}
+use Rattle.std.proofs.Common.{◌≡◌, ◌+◌, arith, refl, sym, ap, ◌∙◌}
+use Rattle.std.specs.Option.{option_map}
+use Rattle.std.proofs.lemmas.Iterator.Consumers.{nth_from_yields_List, YieldsList-from_first}
+use Rattle.sheets.specs.Lines.{shown, lines_of}
+use Rattle.sheets.specs.Rest.{lines_left}
+use Rattle.sheets.proofs.Rows.{line-numbered}
 use Rattle.sheets.proofs.faulty_line.line_at.Goals as goal
 
-pub returns-in_err-rest : goal.returns-in_err-rest
-returns-in_err-rest c =
-    rw c.from_residual.ensures (line-past c.args.sheet.now c.args.number c.loop.counter c.loop.rest.now (omega arith) (omega arith) c.loop.invariant c.in_err-rest.ensures)
-
-pub loop-preserved : goal.loop-preserved
-loop-preserved c =
-    line-passed c.args.sheet.now c.loop.counter c.loop.rest.now c.in_ok-rest.field-0.1.now _ (omega arith) c.loop.invariant c.in_ok-rest.ensures.0
+pub returns-in_err-index : goal.returns-in_err-index
+returns-in_err-index c =
+    let number : c.args.number ≡ 0 = omega (arith, c.in_err-index.ensures) in
+    rw (c.from_residual.ensures, number) refl
 
 pub returns-in_err-line : goal.returns-in_err-line
 returns-in_err-line c =
-    rw c.from_residual-in_err-line.ensures (line-past c.args.sheet.now c.args.number c.loop.counter c.loop.rest.now (omega arith) (omega arith) c.loop.invariant c.in_err-line.ensures)
+    let at = nth_from_yields_List c.nth.result c.nth.new.self c.in_ok-index.index c.nth.ensures.ran (YieldsList-from_first shown lines_left {s = c.of.result} (lines_of c.args.sheet.now) c.of.ensures) in
+    let number : c.args.number ≡ c.in_ok-index.index + 1 = omega (arith, c.in_ok-index.ensures) in
+    rw c.from_residual-in_err-line.ensures (sym (line-numbered c.args.sheet.now c.args.number c.in_ok-index.index number ∙ ap (option_map (λ l. l.text)) (sym (rw c.in_err-line.was at at))))
 
 pub returns : goal.returns
 returns c =
-    let end : c.loop.counter ≡ c.args.number = omega arith in
-    line-here c.args.sheet.now c.args.number c.loop.rest.now _ _ (omega arith) (rw end at c.loop.invariant) c.in_ok-line.ensures.0
+    let at = nth_from_yields_List c.nth.result c.nth.new.self c.in_ok-index.index c.nth.ensures.ran (YieldsList-from_first shown lines_left {s = c.of.result} (lines_of c.args.sheet.now) c.of.ensures) in
+    let number : c.args.number ≡ c.in_ok-index.index + 1 = omega (arith, c.in_ok-index.ensures) in
+    sym (line-numbered c.args.sheet.now c.args.number c.in_ok-index.index number ∙ ap (option_map (λ l. l.text)) (sym (rw c.in_ok-line.was at at)))

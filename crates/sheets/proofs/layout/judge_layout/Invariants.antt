@@ -1,9 +1,6 @@
-use Rattle.std.proofs.Common.{length}
+use Rattle.std.specs.Iterator.Adapters.{enumerate_source, enumerate_count}
 use Rattle.sheets.proofs.LaidOut.{Walked}
 use Rattle.sheets.proofs.layout.judge_layout.Given as goal
 
-abbrev pub invariant-loop-line : goal.invariant-loop-line
-invariant-loop-line l = Walked l.sheet l.rest l.count l.above
-
-abbrev pub decreases-loop-line : goal.decreases-loop-line
-decreases-loop-line l = length l.rest
+abbrev pub invariant-loop-i : goal.invariant-loop-i
+invariant-loop-i l = Walked l.sheet (enumerate_source l.i-iterator).rest.now (enumerate_count l.i-iterator) l.above

@@ -1,17 +1,19 @@
-use Rattle.std.proofs.Common.{eqb, length, get_or, take, ap, ◌∙◌, arith}
-use Rattle.walkthroughs.specs.Firing.{any}
-use Rattle.walkthroughs.specs.Steps.{RepeatedAt}
-use Rattle.walkthroughs.proofs.Placewise.{is-new, is-repeated, no_place, passed_more, passed_none, place_found}
+use Rattle.std.proofs.Common.{◌≡◌, true, false, rules, arith}
+use Rattle.std.proofs.lemmas.Iterator.{first_from_Range}
+use borrow.Author.Tests.{tests}
+use Rattle.walkthroughs.proofs.Placewise.{FirstRepeated, repeats, repeated_first}
 use Rattle.walkthroughs.proofs.each_move.repeated_move.Goals as goal
 
-pub loop-i-init : goal.loop-i-init
-loop-i-init c = passed_none (RepeatedAt c.args.moves.now) (length c.args.moves.now) (λ p so. so.0)
+pub returns-in_err-before : goal.returns-in_err-before
+returns-in_err-before c =
+    let first : FirstRepeated c.args.moves.now c.find.result = first_from_Range _ _ _ c.find.result (λ i. repeats c.args.moves.now i ≡ true) (λ i. repeats c.args.moves.now i ≡ false) c.find.ensures.ran (λ x q k. search (rules, tests)) (λ x q k. search (rules, tests)) in
+    rw c.from_residual.ensures (rw c.in_err-before.was at (repeated_first c.args.moves.now c.find.result first))
 
-pub returns-then-is_among : goal.returns-then-is_among
-returns-then-is_among c = place_found (RepeatedAt c.args.moves.now) (length c.args.moves.now) (λ p so. so.0) c.loop-i.i c.loop-i.invariant (is-repeated c.args.moves.now c.loop-i.i c.loop-i-test.true (c.if-is_among.ensures ∙ ap (λ n. any (λ m. eqb m (get_or c.args.moves.now c.loop-i.i 0)) (take n c.args.moves.now)) (omega arith)))
+first : (c : goal.In_ok-before) → FirstRepeated c.args.moves.now c.find.result
+first c = first_from_Range _ _ _ c.find.result (λ i. repeats c.args.moves.now i ≡ true) (λ i. repeats c.args.moves.now i ≡ false) c.find.ensures.ran (λ x q k. search (rules, tests)) (λ x q k. search (rules, tests))
 
-pub loop-i-preserved : goal.loop-i-preserved
-loop-i-preserved c = passed_more (RepeatedAt c.args.moves.now) (length c.args.moves.now) (λ p so. so.0) c.loop-i.i c.loop-i.invariant (is-new c.args.moves.now c.loop-i.i c.loop-i-test.true (c.if-is_among.ensures ∙ ap (λ n. any (λ m. eqb m (get_or c.args.moves.now c.loop-i.i 0)) (take n c.args.moves.now)) (omega arith)))
+pub overflow_add-result : goal.overflow_add-result
+overflow_add-result c = let found = rw c.in_ok-before.was at (first c) in omega (arith, found.1)
 
 pub returns : goal.returns
-returns c = no_place (RepeatedAt c.args.moves.now) (length c.args.moves.now) (λ p so. so.0) c.loop-i.i c.loop-i-test.false c.loop-i.invariant
+returns c = rw c.in_ok-before.was at (repeated_first c.args.moves.now c.find.result (first c))

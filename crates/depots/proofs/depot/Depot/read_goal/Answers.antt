@@ -1,18 +1,18 @@
-use Rattle.std.proofs.Common.{inr}
-use Rattle.depots.specs.Kinds.{meaning}
+use Rattle.std.proofs.Common.{inr, subst}
+use Rattle.depots.specs.FormulaFields.{FormulaRead}
+use Rattle.depots.specs.Kinds.{meaning_of}
 use Rattle.depots.specs.Tables.{tables_of}
-use Rattle.depots.specs.Wrong.{shown_fields}
-use Rattle.depots.proofs.Entered.{goal_told, goal_full, goal_read}
+use Rattle.depots.specs.Wrong.{number_among, shown_fields}
+use Rattle.depots.proofs.Entered.{goal_read, goal_told}
+use Rattle.depots.proofs.Returned.{handed_on}
 use Rattle.depots.proofs.depot.Depot.read_goal.Goals as goal
 
-pub returns-in-Some : goal.returns-in-Some
-returns-in-Some g c =
-    inr (goal_told (meaning g.K.Kind.wording g.K.TextKind.reading_under g.K.Kind.alike g.K.Kind.certain) (tables_of c.args.self.now) (shown_fields c.args.fields) c.in_ok-goal.goal c.in_ok-goal.ensures c.trouble.result c.trouble.ensures _ c.in-Some.ensures)
+pub returns-in_err-goal : goal.returns-in_err-goal
+returns-in_err-goal g c =
+    rw (handed_on c.from_residual-in_err-goal.result c.in_err-goal.field-0.0 c.from_residual-in_err-goal.ensures.1)
+    (inr (goal_told (meaning_of g.K.Kind g.K.TextKind.reading_under) (tables_of c.args.self.now) (shown_fields c.args.fields) c.in_ok-formula.field-0 c.in_ok-formula.ensures _ c.in_err-goal.ensures))
 
-pub returns-in-None : goal.returns-in-None
-returns-in-None g c =
-    inr (goal_full (meaning g.K.Kind.wording g.K.TextKind.reading_under g.K.Kind.alike g.K.Kind.certain) (tables_of c.args.self.now) (shown_fields c.args.fields) c.in_ok-goal.goal c.in_ok-goal.ensures c.trouble.result c.trouble.ensures c.in_default.ensures c.in-None.ensures)
-
-pub returns-in-Some-added_to : goal.returns-in-Some-added_to
-returns-in-Some-added_to g c =
-    goal_read (meaning g.K.Kind.wording g.K.TextKind.reading_under g.K.Kind.alike g.K.Kind.certain) (tables_of c.args.self.now) (shown_fields c.args.fields) c.in_ok-goal.goal c.in_ok-goal.ensures c.trouble.result c.trouble.ensures c.in_default.ensures c.in-Some-added_to.new c.in-Some-added_to.ensures
+pub returns : goal.returns
+returns g c =
+    let got = subst (FormulaRead (number_among (meaning_of g.K.Kind g.K.TextKind.reading_under) (tables_of c.args.self.now)) c.args.fields.second.now) c.in_ok-goal.ensures.0 c.in_ok-formula.ensures in
+    goal_read (meaning_of g.K.Kind g.K.TextKind.reading_under) (tables_of c.args.self.now) (shown_fields c.args.fields) c.in_ok-goal.goal got c.added_to.result c.added_to.ensures

@@ -1,6 +1,6 @@
 use Rattle.std.proofs.Common.{sym, ap, subst}
 use Rattle.formulas.specs.Shapes.{numbers}
-use Rattle.depots.specs.Kinds.{meaning}
+use Rattle.depots.specs.Kinds.{meaning_of}
 use Rattle.depots.specs.Spelling.{AddsFormula}
 use Rattle.depots.specs.Tables.{tables_of, with_goal}
 use Rattle.depots.proofs.Kept.{count_of}
@@ -13,7 +13,7 @@ returns g c =
       read.0,
       (
         v,
-        subst (AddsFormula (meaning g.K.Kind.wording g.K.TextKind.reading_under g.K.Kind.alike g.K.Kind.certain) (tables_of c.args.self.now) c.args.fields.second.now) (sym c.in_ok-push_formula.ensures) read.1,
+        subst (AddsFormula (meaning_of g.K.Kind g.K.TextKind.reading_under) (tables_of c.args.self.now) c.args.fields.second.now) (sym c.in_ok-push_formula.ensures) read.1,
         ap (with_goal v) (count_of numbers c.push_formula.new.self.formulas c.len-self.result c.len-self.ensures),
       ),
     )

@@ -1,11 +1,9 @@
-use Rattle.std.proofs.Common.{◌∙◌, arith, length-set}
-use Rattle.walkthroughs.proofs.Marking.{row_filled, row_more}
+use Rattle.std.proofs.Common.{◌+◌, rules, arith}
+use borrow.Author.Tests.{tests}
+use Rattle.walkthroughs.specs.Marks.{standing}
+use Rattle.walkthroughs.proofs.Marking.{row_filled}
+use Rattle.walkthroughs.proofs.MadeRows.{made}
 use Rattle.walkthroughs.proofs.marks.Marks.row.Goals as goal
 
-pub loop-i-preserved : goal.loop-i-preserved
-loop-i-preserved c =
-    let inv = c.loop-i.invariant in
-    (length-set c.loop-i.row c.loop-i.i c.stands.result ∙ inv.0, row_more c.args.self.now c.loop-i.row c.loop-i.i c.stands.result (omega (arith, inv.0)) c.stands.ensures inv.1)
-
 pub returns : goal.returns
-returns c = row_filled c.args.self.now c.loop-i.row c.loop-i.invariant.0 (λ k below. c.loop-i.invariant.1 k (omega arith))
+returns c = row_filled c.args.self.now c.from_fn.result (omega arith) (made _ _ (λ i. standing c.args.self.now (i + 1)) (λ i b q k. search (rules, tests)) c.from_fn.result 128 c.from_fn.ensures.items)

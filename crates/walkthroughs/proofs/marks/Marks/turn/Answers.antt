@@ -1,9 +1,8 @@
 use Rattle.std.proofs.Common.{refl, arith}
-use Rattle.walkthroughs.proofs.Marking.{outside, turned-mark, unturned}
+use Rattle.walkthroughs.proofs.Marking.{markable, turned-mark}
 use Rattle.walkthroughs.proofs.marks.Marks.turn.Goals as goal
 
-pub returns-then-number-eq0 : goal.returns-then-number-eq0
-returns-then-number-eq0 c = unturned c.args.self.now c.args.number (outside c.args.number c.then-number-eq0.either)
-
-pub returns : goal.returns
-returns c = turned-mark c.args.self.now _ c.args.number c.if-number-eq0.false c.if-number-gt-MOST_MARKS.false (omega arith) refl
+pub returns-in-Some : goal.returns-in-Some
+returns-in-Some c =
+    let inside = markable c.args.number c.in-Some.ensures.0 in
+    turned-mark c.args.self.now _ c.args.number inside.0 inside.1 (omega arith) (rw c.in-Some.ensures.1 refl)
