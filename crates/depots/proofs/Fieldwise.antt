@@ -1,5 +1,5 @@
 -- The lowest of the troubles with the fields of a line. Assumes nothing.
-use Rattle.std.proofs.Common.{◌≡◌, ℕ, ◌+◌, ◌<◌, ◌≤◌, Bool, true, false, leb, List, [], ◌∷◌, Some, None, Option, sym, refl, ◌∙◌, subst, inl, inr, ⊎_elim, arith, MatchOption}
+use Rattle.std.proofs.Common.{◌≡◌, ℕ, ◌+◌, ◌<◌, ◌≤◌, Bool, true, false, leb, List, [], ◌∷◌, Some, None, Option, sym, refl, ap, ◌∙◌, subst, inl, inr, ⊎_elim, arith, MatchOption}
 use Rattle.std.proofs.lemmas.Bool.{leb-true, leb-false, cases_lt, cond_both, both_ways}
 use Rattle.sheets.specs.declared.refusals.Refusal.{Refusal}
 use Rattle.sheets.specs.declared.refusals.Refusal.TheVariants.{TableFull}
@@ -72,14 +72,21 @@ lower-told t field ts r told = by_first (refusal_of t field) refl r told
         by_fault less x (inl same) = subst (λ y. NoLater (rank_of v) (rank_of y)) (sym (same_first u x is same)) (inl less)
         by_fault less x (inr f) = low.first x f
 
--- the refusal that is told of three fields
-pub three-told : (second third fourth : Option Trouble) → Told (FieldFault 2 (second ∷ third ∷ fourth ∷ [])) (lower_of (refusal_of second 2) (lower_of (refusal_of third 3) (refusal_of fourth 4)))
-three-told second third fourth =
-    lower-told second 2 (third ∷ fourth ∷ []) _ (lower-told third 3 (fourth ∷ []) _ (subst (Told (FieldFault 4 (fourth ∷ []))) (unrivalled (refusal_of fourth 4)) (lower-told fourth 4 [] None (λ w f. f))))
+-- nothing comes after the last field
+last-told : (t : Option Trouble) (field : ℕ) → Told (FieldFault field (t ∷ [])) (refusal_of t field)
+last-told t field = subst (Told (FieldFault field (t ∷ []))) (unrivalled (refusal_of t field)) (lower-told t field [] None (λ w f. f))
   where
     unrivalled : (r : Option Refusal) → lower_of r None ≡ r
     unrivalled None = refl
     unrivalled (Some w) = refl
+
+-- the refusal that is told of two fields, and of three
+pub two-told : (second third : Option Trouble) (w : Refusal) → Some w ≡ lower_of (refusal_of second 2) (refusal_of third 3) → Lowest (FieldFault 2 (second ∷ third ∷ [])) w
+two-told second third w is = subst (Told (FieldFault 2 (second ∷ third ∷ []))) (sym is) (lower-told second 2 (third ∷ []) _ (last-told third 3))
+
+pub three-told : (second third fourth : Option Trouble) (w : Refusal) → Some w ≡ lower_of (refusal_of second 2) (lower_of (refusal_of third 3) (refusal_of fourth 4)) → Lowest (FieldFault 2 (second ∷ third ∷ fourth ∷ [])) w
+three-told second third fourth w is =
+    subst (Told (FieldFault 2 (second ∷ third ∷ fourth ∷ []))) (sym is) (lower-told second 2 (third ∷ fourth ∷ []) _ (lower-told third 3 (fourth ∷ []) _ (last-told fourth 4)))
 
 -- what is wrong with a field is told before a table that is full
 pub before-full : (field : ℕ) (ts : List (Option Trouble)) (w : Refusal) → FieldFault field ts w → number_of w < 9
@@ -95,13 +102,6 @@ before-full field (t ∷ ts) w (inl is) = by_trouble t is
     by_trouble (Some AlwaysTrue) is = subst (λ u. number_of u < 9) (same_Some _ _ is) (omega arith)
 
 module _ (ts : List (Option Trouble)) (full : Bool) where
-  pub field_first : (w : Refusal) → Lowest (FieldFault 2 ts) w → Lowest (LineFault ts full) w
-  field_first w low = record { holds = inl low.holds; first = by_fault }
-    where
-      by_fault : (v : Refusal) → LineFault ts full v → NoLater (rank_of w) (rank_of v)
-      by_fault v (inl f) = low.first v f
-      by_fault v (inr f) = subst (λ u. NoLater (rank_of w) (rank_of u)) (sym f.0) (inl (before-full 2 ts w low.holds))
-
   module _ (fine : (w : Refusal) → FieldFault 2 ts w → ⊥) where
     pub table-full : full ≡ true → Lowest (LineFault ts full) TableFull
     table-full over = record { holds = inr (refl, over); first = by_fault }
@@ -114,7 +114,14 @@ module _ (ts : List (Option Trouble)) (full : Bool) where
     nothing-wrong free w (inl f) = fine w f
     nothing-wrong free w (inr f) = both_ways full free f.1
 
--- a line of one field, with nothing wrong by what the calls answered
-pub faultless_at : (t u : Option Trouble) (n m most : ℕ) → t ≡ u → n ≡ m → Faultless (t ∷ None ∷ None ∷ []) (leb most n) → Faultless (u ∷ None ∷ None ∷ []) (leb most m)
-faultless_at t u n m most same-trouble same_length fine =
-    subst (λ x. Faultless (x ∷ None ∷ None ∷ []) (leb most m)) same-trouble (subst (λ x. Faultless (t ∷ None ∷ None ∷ []) (leb most x)) same_length fine)
+-- a line of one field that is in no trouble, by whether a table is full
+module _ (t : Option Trouble) (fine : t ≡ None) (full : Bool) where
+  untroubled : (w : Refusal) → FieldFault 2 (t ∷ []) w → ⊥
+  untroubled w (inl is) = none-some _ (ap (λ o. refusal_of o 2) (sym fine) ∙ is)
+  untroubled w (inr f) = f
+
+  pub one-full : full ≡ true → Lowest (LineFault (t ∷ []) full) TableFull
+  one-full = table-full (t ∷ []) full untroubled
+
+  pub one-faultless : full ≡ false → Faultless (t ∷ []) full
+  one-faultless = nothing-wrong (t ∷ []) full untroubled

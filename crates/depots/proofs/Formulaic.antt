@@ -2,16 +2,20 @@
 use Rattle.std.proofs.Common.{◌≡◌, ℕ, true, false, List, Some, Ok, Err, Result, sym, refl, ap, ◌∙◌, subst}
 use Rattle.std.proofs.lemmas.Option.{none-some}
 use Rattle.std.specs.Result.{result_err}
-use Rattle.std.proofs.lemmas.Bool.{and_parts, and_from, both_ways}
+use Rattle.std.proofs.lemmas.Bool.{both_ways}
 use Rattle.facts.specs.declared.names.NoFact.{NoFact}
 use Rattle.facts.specs.declared.names.NoFact.TheVariants as none
-use Rattle.formulas.specs.Formulas.{Formula, Formulas, fact, neg, all, none as no-formulas, more}
+use Rattle.formulas.specs.declared.resolve.Unresolved.TheVariants as unresolved
+use Rattle.formulas.specs.Formulas.{Formula}
 use Rattle.formulas.specs.Reading.{Spells}
-use Rattle.formulas.specs.Resolving.{each_passes, each_passes_in, has_form, is_listed}
+use Rattle.formulas.specs.Resolving.{each_passes, is_listed, Resolves}
+use Rattle.facts.specs.Numbering.{has_form}
+use Rattle.formulas.proofs.Numbering.{formed}
 use Rattle.formulas.proofs.Unique.{spelling_fixes}
 use Rattle.depots.specs.declared.formula_field.SizedFormula.{SizedFormula}
 use Rattle.depots.specs.declared.troubles.Trouble.{Trouble}
 use Rattle.depots.specs.declared.troubles.Trouble.TheVariants.{NotItsForm, NotListed, Twice, AlwaysTrue}
+use Rattle.depots.specs.Fields.{as_trouble}
 use Rattle.depots.specs.FormulaFields.{FormulaRead}
 use Rattle.depots.specs.Wrong.{FormulaWrong}
 
@@ -20,25 +24,14 @@ pub spells_one : (d e : ℕ) (text : List ℕ) (p q : Formula (List ℕ)) → Sp
 spells_one d e text p q a b = spelling_fixes p q a.facts b.facts (a.text_is ∙ sym b.text_is)
 
 -- what is so of the formula that a text spells is so of every one
-pub of-every : (d : ℕ) (text : List ℕ) (p : Formula (List ℕ)) (P : Formula (List ℕ) → Type 0) → Spells d text p → P p → (q : Formula (List ℕ)) → Spells d text q → P q
+of-every : (d : ℕ) (text : List ℕ) (p : Formula (List ℕ)) (P : Formula (List ℕ) → Type 0) → Spells d text p → P p → (q : Formula (List ℕ)) → Spells d text q → P q
 of-every d text p P a is q b = subst P (spells_one d d text p q a b) is
 
 module _ (number : List ℕ → Result ℕ NoFact) where
-  form_of_listed : (r : Result ℕ NoFact) → is_listed r ≡ true → has_form r ≡ true
-  form_of_listed (Ok n) listed = refl
-  form_of_listed (Err none.NotItsForm) listed = absurd (both_ways _ (refl {a = false}) listed)
-  form_of_listed (Err none.NotListed) listed = refl
-
-  mutual
-    -- listed facts have their form
-    formed : (p : Formula (List ℕ)) → each_passes (λ f. is_listed (number f)) p ≡ true → each_passes (λ f. has_form (number f)) p ≡ true
-    formed (fact f) listed = form_of_listed (number f) listed
-    formed (neg p) listed = formed p listed
-    formed (all ps) listed = formed-in ps listed
-
-    formed-in : (ps : Formulas (List ℕ)) → each_passes_in (λ f. is_listed (number f)) ps ≡ true → each_passes_in (λ f. has_form (number f)) ps ≡ true
-    formed-in no-formulas listed = refl
-    formed-in (more p ps) listed = let each = and_parts _ _ listed in and_from _ _ (formed p each.0) (formed-in ps each.1)
+  -- what is wrong with a fact of a formula is wrong with the field that the formula fills
+  pub fact_wrong : (text : List ℕ) (p : Formula (List ℕ)) → Spells 8 text p → (why : NoFact) → Resolves number p (Err (unresolved.NoFact why)) → FormulaWrong number text (as_trouble why)
+  fact_wrong text p spells none.NotItsForm formless = of-every 8 text p (λ q. each_passes (λ f. has_form (number f)) q ≡ false) spells formless
+  fact_wrong text p spells none.NotListed unlisted = (p, spells, unlisted.0, unlisted.1)
 
   -- of what is wrong with a formula only one is
   one-trouble : (text : List ℕ) (a b : Trouble) → FormulaWrong number text a → FormulaWrong number text b → a ≡ b
@@ -55,7 +48,7 @@ module _ (number : List ℕ → Result ℕ NoFact) where
 
   -- a formula of listed facts has nothing wrong
   none-wrong : (text : List ℕ) (p : Formula (List ℕ)) → Spells 8 text p → each_passes (λ f. is_listed (number f)) p ≡ true → (a : Trouble) → FormulaWrong number text a → ⊥
-  none-wrong text p spells listed NotItsForm f = both_ways _ (f p spells) (formed p listed)
+  none-wrong text p spells listed NotItsForm f = both_ways _ (f p spells) (formed number p listed)
   none-wrong text p spells listed NotListed f = both_ways _ f.3 (of-every 8 text p (λ q. each_passes (λ f. is_listed (number f)) q ≡ true) spells listed f.0 f.1)
   none-wrong text p spells listed Twice f = f
   none-wrong text p spells listed AlwaysTrue f = f

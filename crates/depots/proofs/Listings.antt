@@ -1,5 +1,5 @@
 -- Lines of one field, by what their tables took. Assumes nothing.
-use Rattle.std.proofs.Common.{◌≡◌, ℕ, ◌≤◌, Bool, true, false, cond, leb, List, [], ◌∷◌, ◌++◌, length, is_some, Some, None, Ok, Err, Option, Result, sym, refl, ap, ◌∙◌, subst, inr, arith}
+use Rattle.std.proofs.Common.{◌≡◌, ℕ, ◌≤◌, Bool, true, false, cond, leb, List, [], ◌∷◌, ◌++◌, length, is_some, Some, Ok, Err, Option, Result, sym, refl, ap, ◌∙◌, subst, inr, arith}
 use Rattle.std.specs.Result.{result_err}
 use Rattle.std.specs.Str.{bytes_eq}
 use Rattle.std.proofs.lemmas.List.{length_push}
@@ -21,7 +21,7 @@ use Rattle.depots.specs.Troubles.{LineFault}
 use Rattle.depots.specs.Wrong.{Fields, number_among}
 use Rattle.depots.specs.Wrong.Sort.{word}
 use Rattle.depots.proofs.Returned.{ok_err}
-use Rattle.depots.proofs.Told.{Found, found_nothing, line_taken}
+use Rattle.depots.proofs.Told.{Found, found_nothing, line_taken, one-field}
 
 over : (most n k : ℕ) → n ≡ k → leb most n ≡ true → most ≤ k
 over most n k same is = subst (λ j. most ≤ j) same (leb-true most n is)
@@ -48,32 +48,32 @@ read-start (Ok k) started n is = by_test (among k started) is
 read-start (Err why) started n is = absurd (ok_err (sym is))
 
 module _ {F : Type 0} (m : Meaning F) (t : Tables F) (f : Fields) (r : Result Unit Refusal) (Kept : Type 0) where
-  pub zone_line : (new : List (List ℕ)) (n : ℕ) → n ≡ length t.zones → Taken (new_name t.zones f.second ∷ None ∷ None ∷ []) (leb 12 n) (new ≡ t.zones ++ f.second ∷ []) Kept r → LineTaken m t letter.Zone f r (with_zones t new)
+  pub zone_line : (new : List (List ℕ)) (n : ℕ) → n ≡ length t.zones → Taken (new_name t.zones f.second ∷ []) (leb 12 n) (new ≡ t.zones ++ f.second ∷ []) Kept r → LineTaken m t letter.Zone f r (with_zones t new)
   zone_line new n count =
-      line_taken m t letter.Zone f (new_name t.zones f.second) None None (λ a. (λ e. e, λ e. e)) (found_nothing m t f.third) (found_nothing m t f.fourth) (with_zones t new) (leb 12 n) _ Kept
+      line_taken m t letter.Zone f (new_name t.zones f.second ∷ []) (one-field m t letter.Zone f (new_name t.zones f.second) (λ a. (λ e. e, λ e. e)) (found_nothing m t f.third) (found_nothing m t f.fourth)) (with_zones t new) (leb 12 n) _ Kept
       (over 12 n _ count) (is-over 12 n _ count) (ap (with_zones t)) r
 
-  pub matter_line : (new : List (List ℕ)) (n : ℕ) → n ≡ length t.matters → Taken (new_name t.matters f.second ∷ None ∷ None ∷ []) (leb 64 n) (new ≡ t.matters ++ f.second ∷ []) Kept r → LineTaken m t letter.Matter f r (with_matters t new)
+  pub matter_line : (new : List (List ℕ)) (n : ℕ) → n ≡ length t.matters → Taken (new_name t.matters f.second ∷ []) (leb 64 n) (new ≡ t.matters ++ f.second ∷ []) Kept r → LineTaken m t letter.Matter f r (with_matters t new)
   matter_line new n count =
-      line_taken m t letter.Matter f (new_name t.matters f.second) None None (λ a. (λ e. e, λ e. e)) (found_nothing m t f.third) (found_nothing m t f.fourth) (with_matters t new) (leb 64 n) _ Kept
+      line_taken m t letter.Matter f (new_name t.matters f.second ∷ []) (one-field m t letter.Matter f (new_name t.matters f.second) (λ a. (λ e. e, λ e. e)) (found_nothing m t f.third) (found_nothing m t f.fourth)) (with_matters t new) (leb 64 n) _ Kept
       (over 64 n _ count) (is-over 64 n _ count) (ap (with_matters t)) r
 
-  pub fact_line : (new : List F) (texts : List (List ℕ)) (n : ℕ) → n ≡ length t.facts → Taken (result_err (new_fact m.alike m.certain (m.reading (listing t) f.second) t.facts) ∷ None ∷ None ∷ []) (leb 128 n) ((fact : F) × (new_fact m.alike m.certain (m.reading (listing t) f.second) t.facts ≡ Ok fact) × (new ≡ t.facts ++ fact ∷ []) × (texts ≡ t.texts ++ f.second ∷ [])) Kept r → LineTaken m t letter.Fact f r (with_facts t new texts)
+  pub fact_line : (new : List F) (texts : List (List ℕ)) (n : ℕ) → n ≡ length t.facts → Taken (result_err (new_fact m.alike m.certain (m.reading (listing t) f.second) t.facts) ∷ []) (leb 128 n) ((fact : F) × (new_fact m.alike m.certain (m.reading (listing t) f.second) t.facts ≡ Ok fact) × (new ≡ t.facts ++ fact ∷ []) × (texts ≡ t.texts ++ f.second ∷ [])) Kept r → LineTaken m t letter.Fact f r (with_facts t new texts)
   fact_line new texts n count =
-      line_taken m t letter.Fact f (result_err (new_fact m.alike m.certain (m.reading (listing t) f.second) t.facts)) None None (λ a. (λ e. e, λ e. e)) (found_nothing m t f.third) (found_nothing m t f.fourth) (with_facts t new texts) (leb 128 n) _ Kept
+      line_taken m t letter.Fact f (result_err (new_fact m.alike m.certain (m.reading (listing t) f.second) t.facts) ∷ []) (one-field m t letter.Fact f (result_err (new_fact m.alike m.certain (m.reading (listing t) f.second) t.facts)) (λ a. (λ e. e, λ e. e)) (found_nothing m t f.third) (found_nothing m t f.fourth)) (with_facts t new texts) (leb 128 n) _ Kept
       (over 128 n _ count) (is-over 128 n _ count)
       (λ e. (e.0, read-new m.alike m.certain (m.reading (listing t) f.second) t.facts e.0 e.1, ap (λ x. with_facts t x texts) e.2 ∙ ap (with_facts t (t.facts ++ e.0 ∷ [])) e.3)) r
 
-  pub start_line : (new : List ℕ) (number : Result ℕ NoFact) → number ≡ number_among m t f.second → Taken (result_err (new_start number t.started) ∷ None ∷ None ∷ []) false ((n : ℕ) × (new_start number t.started ≡ Ok n) × (new ≡ t.started ++ n ∷ [])) Kept r → LineTaken m t letter.Start f r (with_started t new)
+  pub start_line : (new : List ℕ) (number : Result ℕ NoFact) → number ≡ number_among m t f.second → Taken (result_err (new_start number t.started) ∷ []) false ((n : ℕ) × (new_start number t.started ≡ Ok n) × (new ≡ t.started ++ n ∷ [])) Kept r → LineTaken m t letter.Start f r (with_started t new)
   start_line new number same =
-      line_taken m t letter.Start f (result_err (new_start number t.started)) None None
-      (λ a. (λ e. ap (λ x. result_err (new_start x t.started)) same ∙ e, λ e. ap (λ x. result_err (new_start x t.started)) (sym same) ∙ e)) (found_nothing m t f.third) (found_nothing m t f.fourth) (with_started t new) false _ Kept
+      line_taken m t letter.Start f (result_err (new_start number t.started) ∷ [])
+      (one-field m t letter.Start f (result_err (new_start number t.started)) (λ a. (λ e. ap (λ x. result_err (new_start x t.started)) same ∙ e, λ e. ap (λ x. result_err (new_start x t.started)) (sym same) ∙ e)) (found_nothing m t f.third) (found_nothing m t f.fourth)) (with_started t new) false _ Kept
       (λ e. false≢true e) (λ e. absurd e)
       (λ e. (e.0, sym same ∙ read-start number t.started e.0 e.1, ap (with_started t) e.2)) r
 
 -- a table of facts that took a line has no more than it may
 module _ {F : Type 0} (m : Meaning F) (t : Tables F) (f : Fields) (new : List F) (texts : List (List ℕ)) (n : ℕ) (count : n ≡ length t.facts) (few : n ≤ 128) (Kept : Type 0) where
-  pub few-facts : (r : Result Unit Refusal) → Taken (result_err (new_fact m.alike m.certain (m.reading (listing t) f.second) t.facts) ∷ None ∷ None ∷ []) (leb 128 n) ((fact : F) × (new_fact m.alike m.certain (m.reading (listing t) f.second) t.facts ≡ Ok fact) × (new ≡ t.facts ++ fact ∷ []) × (texts ≡ t.texts ++ f.second ∷ [])) ((new ≡ t.facts) × Kept) r → length new ≤ 128
+  pub few-facts : (r : Result Unit Refusal) → Taken (result_err (new_fact m.alike m.certain (m.reading (listing t) f.second) t.facts) ∷ []) (leb 128 n) ((fact : F) × (new_fact m.alike m.certain (m.reading (listing t) f.second) t.facts ≡ Ok fact) × (new ≡ t.facts ++ fact ∷ []) × (texts ≡ t.texts ++ f.second ∷ [])) ((new ≡ t.facts) × Kept) r → length new ≤ 128
   few-facts (Ok _) taken =
       omega (arith, ap length taken.1.2, length_push t.facts taken.1.0, leb-false 128 n (not_full (leb 128 n) (λ is. taken.0 TableFull (inr (refl, is)))))
     where
@@ -87,9 +87,9 @@ module _ {F : Type 0} (m : Meaning F) (t : Tables F) (f : Fields) where
   found_word : (o : Option Trouble) → ((a : Trouble) → (a ≡ NotItsForm) × (bytes_eq f.second m.wording ≡ false) → o ≡ Some a) → ((a : Trouble) → o ≡ Some a → (a ≡ NotItsForm) × (bytes_eq f.second m.wording ≡ false)) → Found m t word f.second o
   found_word o there back a = (there a, back a)
 
-  pub other_word : bytes_eq f.second m.wording ≡ false → (w : Refusal) → ((full : Bool) → Lowest (LineFault (Some NotItsForm ∷ None ∷ None ∷ []) full) w) → LineTaken m t letter.Kind f (Err w) t
+  pub other_word : bytes_eq f.second m.wording ≡ false → (w : Refusal) → ((full : Bool) → Lowest (LineFault (Some NotItsForm ∷ []) full) w) → LineTaken m t letter.Kind f (Err w) t
   other_word other w low =
-      line_taken m t letter.Kind f (Some NotItsForm) None None (found_word (Some NotItsForm) (λ a e. ap Some (sym e.0)) (λ a e. (inner a e, other))) (found_nothing m t f.third) (found_nothing m t f.fourth) t false Unit Unit
+      line_taken m t letter.Kind f (Some NotItsForm ∷ []) (one-field m t letter.Kind f (Some NotItsForm) (found_word (Some NotItsForm) (λ a e. ap Some (sym e.0)) (λ a e. (inner a e, other))) (found_nothing m t f.third) (found_nothing m t f.fourth)) t false Unit Unit
       (λ e. false≢true e) (λ e. absurd e) (λ _. refl) (Err w) (inr (low false), tt)
     where
       inner : (a : Trouble) → Some NotItsForm ≡ Some a → a ≡ NotItsForm

@@ -1,12 +1,14 @@
 -- Entries of the tables by number. Assumes nothing.
-use Rattle.std.proofs.Common.{◌≡◌, ℕ, zero, suc, ◌-◌, ◌<◌, ◌≤◌, true, false, ltb, min, max, List, [], ◌∷◌, map, length, get_or, take, drop, Some, None, Option, sym, refl, ap, ◌∙◌, ⊎_elim, arith, length-drop}
-use Rattle.std.proofs.lemmas.List.{drop-map, drop_all, take-map, take_all}
-use Rattle.std.specs.Option.{option_map, unwrap_or}
-use Rattle.std.proofs.lemmas.Bool.{cases_lt, ltb-true, ltb-false}
+use Rattle.std.proofs.Common.{◌≡◌, ℕ, zero, suc, ◌-◌, ◌<◌, ◌≤◌, min, max, List, [], ◌∷◌, map, length, take, drop, Some, None, Option, MatchOption, sym, refl, ap, ◌∙◌, ⊎_elim, arith, length-drop}
+use Rattle.std.proofs.lemmas.List.{drop-map, drop_all, length-map, take-map, take_all}
+use Rattle.std.specs.List.{ItemBy, slice_get}
+use Rattle.std.specs.Option.{option_map, option_map_or}
+use Rattle.std.proofs.lemmas.Bool.{cases_lt}
 use Rattle.depots.specs.declared.depot.NamedMove.{NamedMove as Kept}
-use Rattle.depots.specs.Moves.{effects_of, end_of, entry_at, need_of}
+use Rattle.sheets.specs.Numbered.{entry_at}
+use Rattle.depots.specs.Moves.{effects_of, end_of}
 use Rattle.depots.specs.Tables.{Effect, move_of}
-use Rattle.std.proofs.lemmas.Option.{none-some, same_Some, slice_get-map}
+use Rattle.std.proofs.lemmas.Option.{none-some, same_Some, slice_get-map, slice_get_past, slice_get_read}
 
 -- an entry that is lent, by what it stands for
 pub entry_shown : {B X Y : Type 0} (look : B → X) (f : X → Y) (r : Option B) (xs : List X) (n : ℕ) → option_map look r ≡ entry_at xs n → option_map (λ b. f (look b)) r ≡ entry_at (map f xs) n
@@ -15,35 +17,28 @@ entry_shown look f (Some b) xs zero is = cc
 entry_shown look f None xs (suc n) is = ap (option_map f) is ∙ sym (slice_get-map f xs n)
 entry_shown look f (Some b) xs (suc n) is = ap (option_map f) is ∙ sym (slice_get-map f xs n)
 
--- the need of a move that is listed, or of none
-pub need_found : (kept : List Kept) (n : ℕ) (o : Option Kept) → o ≡ entry_at kept n → unwrap_or (option_map (λ x. x.numbers.need) o) 0 ≡ need_of (map move_of kept) n
-need_found kept zero o is = ap (λ o. unwrap_or (option_map (λ x. x.numbers.need) o) 0) is
-need_found [] (suc n) o is = ap (λ o. unwrap_or (option_map (λ x. x.numbers.need) o) 0) is
-need_found (v ∷ kept) (suc zero) o is = ap (λ o. unwrap_or (option_map (λ x. x.numbers.need) o) 0) is
-need_found (v ∷ kept) (suc (suc n)) o is = need_found kept (suc n) o is
+-- the last entry that is lent, by what it stands for
+pub last_shown : {B X Y : Type 0} (look : B → X) (f : X → Y) (r : Option B) (xs : List X) → option_map look r ≡ slice_get xs (length xs - 1) → option_map (λ b. f (look b)) r ≡ entry_at (map f xs) (length (map f xs))
+last_shown look f r [] is = entry_shown look f r [] 0 is
+last_shown look f r (x ∷ xs) is =
+    let below : length (x ∷ xs) - 1 ≡ length xs = omega arith in
+    entry_shown look f r (x ∷ xs) (length (x ∷ xs)) (is ∙ ap (slice_get (x ∷ xs)) below) ∙ ap (entry_at (map f (x ∷ xs))) (sym (length-map (x ∷ xs) f))
+
+-- an entry that was looked up by its place
+pub looked_up : {B X : Type 0} (look : B → X) (r : Option B) (xs : List X) (i : ℕ) → ItemBy look xs i i r → option_map look r ≡ slice_get xs i
+looked_up look None xs i at = sym (slice_get_past xs i at.3)
+looked_up look (Some b) xs i at = sym (slice_get_read xs (length xs) i (look b) refl at.3.0 at.1)
+
+-- what is told of an entry that is lent, or of none
+pub told_or : {B X : Type 0} (look : B → X) (f : X → ℕ) (r : Option B) (other n : ℕ) (Tells : B → Type 0) → MatchOption r (n ≡ other) Tells → ((b : B) → Tells b → n ≡ f (look b)) → n ≡ option_map_or f (option_map look r) other
+told_or look f None other n Tells is tells = is
+told_or look f (Some b) other n Tells is tells = tells b is
 
 pub effects_none : (kept : List Kept) (effects : List Effect) (n : ℕ) → None ≡ entry_at kept n → [] ≡ effects_of (map move_of kept) effects n
 effects_none kept effects zero out = refl
 effects_none [] effects (suc n) out = refl
 effects_none (v ∷ kept) effects (suc zero) out = absurd (none-some _ out)
 effects_none (v ∷ kept) effects (suc (suc n)) out = effects_none kept effects (suc n) out
-
--- how many effects stand before those of the next move
-pub end-at : (kept : List Kept) (all i : ℕ) (x : Kept) → true ≡ ltb i (length kept) → x ≡ get_or kept i x → x.numbers.effects_before ≡ end_of (map move_of kept) all i
-end-at kept all i x within is = at kept i (ltb-true i (length kept) (sym within)) is
-  where
-    at : (kept : List Kept) (i : ℕ) → i < length kept → x ≡ get_or kept i x → x.numbers.effects_before ≡ end_of (map move_of kept) all i
-    at [] i within is = absurd (omega arith)
-    at (v ∷ kept) zero within is = ap (λ m. m.numbers.effects_before) is
-    at (v ∷ kept) (suc i) within is = at kept i (omega arith) is
-
-pub end-past : (kept : List Kept) (all i : ℕ) → false ≡ ltb i (length kept) → all ≡ end_of (map move_of kept) all i
-end-past kept all i past = at kept i (ltb-false i (length kept) (sym past))
-  where
-    at : (kept : List Kept) (i : ℕ) → length kept ≤ i → all ≡ end_of (map move_of kept) all i
-    at [] i past = refl
-    at (v ∷ kept) zero past = absurd (omega arith)
-    at (v ∷ kept) (suc i) past = at kept i (omega arith)
 
 -- the effects of a move by where they begin and end
 pub own_found : (kept : List Kept) (effects : List Effect) (n : ℕ) (x : Kept) → Some x ≡ entry_at kept n → take (end_of (map move_of kept) (length effects) n - x.numbers.effects_before) (drop x.numbers.effects_before effects) ≡ effects_of (map move_of kept) effects n

@@ -1,13 +1,14 @@
 pub mod AnyDepots
-pub mod EffectFields
 pub mod Entries
 pub mod Fields
 pub mod FormulaFields
 pub mod Kinds
 pub mod Laws
+pub mod MoveLines
 pub mod Moves
 pub mod Settings
 pub mod Spelling
 pub mod Tables
+pub mod Taking
 pub mod Troubles
 pub mod Wrong

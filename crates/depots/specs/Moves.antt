@@ -1,6 +1,7 @@
--- Which effects are a move's, and which formula has a number. Assumes nothing.
-use Rattle.std.specs.Prelude.{ℕ, zero, suc, ◌-◌, List, [], ◌∷◌, take, drop, None, Option}
-use Rattle.std.specs.List.{slice_get}
+-- Which effects are a move's, and which formula is its need. Assumes nothing.
+use Rattle.std.specs.Prelude.{ℕ, zero, suc, ◌-◌, List, [], ◌∷◌, take, drop, Option}
+use Rattle.std.specs.Option.{option_map, option_map_or}
+use Rattle.sheets.specs.Numbered.{entry_at}
 use Rattle.depots.specs.Tables.{Effect, Move}
 
 -- The effects of a move that has so many before its own: those up to the next move's, or all that follow.
@@ -15,20 +16,10 @@ effects_of [] effects (suc n) = []
 effects_of (v ∷ moves) effects (suc zero) = own_effects v.effects_before moves effects
 effects_of (v ∷ moves) effects (suc (suc n)) = effects_of moves effects (suc n)
 
--- The need of the move with a number, by its formula number; 0 where no move has the number.
-abbrev pub need_of : List Move → ℕ → ℕ
-need_of moves zero = 0
-need_of [] (suc n) = 0
-need_of (v ∷ moves) (suc zero) = v.need
-need_of (v ∷ moves) (suc (suc n)) = need_of moves (suc n)
-
--- The entry with a number, counted from 1, if there is one.
-abbrev pub entry_at : {X : Type 0} → List X → ℕ → Option X
-entry_at entries zero = None
-entry_at entries (suc n) = slice_get entries n
+-- The need of the move with a number, by its formula number, if there is the move.
+abbrev pub need_of : List Move → ℕ → Option ℕ
+need_of moves n = option_map (λ v. v.need) (entry_at moves n)
 
 -- How many effects stand before those of the move after the one with a number: of so many in all, where there is none.
 abbrev pub end_of : List Move → ℕ → ℕ → ℕ
-end_of [] all n = all
-end_of (v ∷ moves) all zero = v.effects_before
-end_of (v ∷ moves) all (suc n) = end_of moves all n
+end_of moves all n = option_map_or (λ v. v.effects_before) (entry_at moves (suc n)) all

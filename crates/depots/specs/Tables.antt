@@ -1,5 +1,5 @@
 -- The tables that the lines of a depot sheet fill. Assumes nothing.
-use Rattle.std.specs.Prelude.{ℕ, List, [], map, take, vec_items}
+use Rattle.std.specs.Prelude.{ℕ, List, [], map, take, Some, None, vec_items, Option}
 use Rattle.facts.specs.declared.kinds.Kind.{Ghosts}
 use Rattle.facts.specs.Texts.{Listing, listing_of}
 use Rattle.formulas.specs.Formulas.{Formula}
@@ -23,7 +23,7 @@ pub record Move : Type 0 where
 
 -- The tables: zones (agents) and matters (propositions) by their texts, the listed facts (atoms) with their texts, the
 -- numbers of the started facts, the names of the moves, the moves, their effects, the formulas (needs, conditions and the
--- goal) with how large they are together, and the number of the goal's formula, 0 while there is none.
+-- goal) with how large they are together, and the number of the goal's formula, while there is one.
 pub record Tables (F : Type 0) : Type 0 where
   pub zones : List (List ℕ)
   pub matters : List (List ℕ)
@@ -35,11 +35,11 @@ pub record Tables (F : Type 0) : Type 0 where
   pub effects : List Effect
   pub formulas : List (Formula ℕ)
   pub size : ℕ
-  pub goal : ℕ
+  pub goal : Option ℕ
 
 -- Tables with nothing in them: those of an empty depot.
 abbrev pub no_tables : {F : Type 0} → Tables F
-no_tables = record { zones = []; matters = []; facts = []; texts = []; started = []; names = []; moves = []; effects = []; formulas = []; size = 0; goal = 0 }
+no_tables = record { zones = []; matters = []; facts = []; texts = []; started = []; names = []; moves = []; effects = []; formulas = []; size = 0; goal = None }
 
 module _ {F : Type 0} (t : Tables F) where
   -- The zones and matters, under which texts are read.
@@ -48,31 +48,31 @@ module _ {F : Type 0} (t : Tables F) where
 
   -- The same tables but for one or two.
   abbrev pub with_zones : List (List ℕ) → Tables F
-  with_zones new = record { zones = new; matters = t.matters; facts = t.facts; texts = t.texts; started = t.started; names = t.names; moves = t.moves; effects = t.effects; formulas = t.formulas; size = t.size; goal = t.goal }
+  with_zones new = record t { zones = new }
 
   abbrev pub with_matters : List (List ℕ) → Tables F
-  with_matters new = record { zones = t.zones; matters = new; facts = t.facts; texts = t.texts; started = t.started; names = t.names; moves = t.moves; effects = t.effects; formulas = t.formulas; size = t.size; goal = t.goal }
+  with_matters new = record t { matters = new }
 
   abbrev pub with_facts : List F → List (List ℕ) → Tables F
-  with_facts new spelled = record { zones = t.zones; matters = t.matters; facts = new; texts = spelled; started = t.started; names = t.names; moves = t.moves; effects = t.effects; formulas = t.formulas; size = t.size; goal = t.goal }
+  with_facts new spelled = record t { facts = new; texts = spelled }
 
   abbrev pub with_started : List ℕ → Tables F
-  with_started new = record { zones = t.zones; matters = t.matters; facts = t.facts; texts = t.texts; started = new; names = t.names; moves = t.moves; effects = t.effects; formulas = t.formulas; size = t.size; goal = t.goal }
+  with_started new = record t { started = new }
 
   abbrev pub with_moves : List (List ℕ) → List Move → Tables F
-  with_moves named new = record { zones = t.zones; matters = t.matters; facts = t.facts; texts = t.texts; started = t.started; names = named; moves = new; effects = t.effects; formulas = t.formulas; size = t.size; goal = t.goal }
+  with_moves named new = record t { names = named; moves = new }
 
   abbrev pub with_effects : List Effect → Tables F
-  with_effects new = record { zones = t.zones; matters = t.matters; facts = t.facts; texts = t.texts; started = t.started; names = t.names; moves = t.moves; effects = new; formulas = t.formulas; size = t.size; goal = t.goal }
+  with_effects new = record t { effects = new }
 
   abbrev pub with_formulas : List (Formula ℕ) → ℕ → Tables F
-  with_formulas new large = record { zones = t.zones; matters = t.matters; facts = t.facts; texts = t.texts; started = t.started; names = t.names; moves = t.moves; effects = t.effects; formulas = new; size = large; goal = t.goal }
+  with_formulas new large = record t { formulas = new; size = large }
 
   abbrev pub with_goal : ℕ → Tables F
-  with_goal new = record { zones = t.zones; matters = t.matters; facts = t.facts; texts = t.texts; started = t.started; names = t.names; moves = t.moves; effects = t.effects; formulas = t.formulas; size = t.size; goal = new }
+  with_goal new = record t { goal = Some new }
 
 -- An effect as a depot keeps it.
-abbrev pub effect_of : KeptEffect → Effect
+abbrev pub effect_of : KeptEffect ℕ → Effect
 effect_of e = record { condition = e.condition; settings = numbers_of e.settings; strikes = numbers_of e.strikes }
 
 -- A move as a depot keeps it, beside its name.

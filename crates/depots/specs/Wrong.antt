@@ -1,16 +1,19 @@
 -- What is wrong with the fields of a line, under the tables of the lines above it. Assumes nothing.
-use Rattle.std.specs.Prelude.{◌≡◌, ℕ, ◌+◌, ◌-◌, ◌<◌, ◌≤◌, true, false, ◌⊎◌, List, [], ◌∷◌, length, Some, Result}
+use Rattle.std.specs.Prelude.{◌≡◌, ℕ, ◌+◌, ◌-◌, ◌<◌, ◌≤◌, true, false, ◌⊎◌, List, length, Some, Result}
+use Rattle.std.specs.Option.{option_map_or}
 use Rattle.std.specs.Result.{result_err}
 use Rattle.std.specs.Str.{bytes_eq}
 use Rattle.sheets.specs.declared.letters.Letter.{Letter}
 use Rattle.sheets.specs.declared.letters.Letter.TheVariants as letter
 use Rattle.sheets.specs.declared.refusals.Refusal.{Refusal}
 use Rattle.sheets.specs.declared.refusals.Refusal.TheVariants.{TableFull}
+use Rattle.sheets.specs.Numbered.{entry_at}
 use Rattle.facts.specs.declared.names.NoFact.{NoFact}
 use Rattle.facts.specs.Listed.{number_of_text}
 use Rattle.formulas.specs.Formulas.{Formula}
 use Rattle.formulas.specs.Reading.{Spells}
-use Rattle.formulas.specs.Resolving.{each_passes, has_form, is_listed}
+use Rattle.formulas.specs.Resolving.{each_passes, is_listed}
+use Rattle.facts.specs.Numbering.{has_form}
 use Rattle.formulas.specs.Spelling.{size_of}
 use Rattle.depots.specs.declared.fields.Fields.{Fields as LentFields}
 use Rattle.depots.specs.declared.troubles.Trouble.{Trouble}
@@ -53,7 +56,7 @@ abbrev alone : Sort → Sorts
 alone s = record { second = s; third = no_field; fourth = no_field }
 
 -- The most zones, matters, facts, moves, effects of a move, effects in all, and the largest that the formulas of a sheet
--- may be together.
+-- may be together. They stand one by one, since what follows names each.
 abbrev pub most_zones : ℕ
 most_zones = 12
 
@@ -88,9 +91,7 @@ FormulaWrong number text AlwaysTrue = ⊥
 
 -- How many effects stand before those of the last move.
 abbrev pub before_last : List Move → ℕ
-before_last [] = 0
-before_last (v ∷ []) = v.effects_before
-before_last (v ∷ u ∷ moves) = before_last (u ∷ moves)
+before_last moves = option_map_or (λ v. v.effects_before) (entry_at moves (length moves)) 0
 
 module _ {F : Type 0} (m : Meaning F) (t : Tables F) where
   -- Which listed fact a text is, by its number.

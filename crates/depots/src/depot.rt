@@ -16,25 +16,27 @@ pub struct Move {
     pub(crate) effects_before: usize,
 }
 
-// A move with the name that its line lists.
+// A move with the name that its line lists. Apart from `Move`, which can be copied and with a name inside could not.
 #[derive(Drop)]
 pub struct NamedMove {
     pub(crate) name: Name,
     pub(crate) numbers: Move,
 }
 
-// An effect of a move (a conditional effect): the number of its condition's formula, and what it sets and strikes.
-#[derive(Clone, Copy)]
-pub struct Effect {
-    pub(crate) condition: usize,
+// An effect of a move (a conditional effect): its condition, and what it sets and strikes. In the table the condition is the
+// number of its formula; of a line that is read it is the formula, which has no number before it is listed.
+#[derive(Clone, Copy, Drop)]
+pub struct Effect<C = usize> {
+    pub(crate) condition: C,
     pub(crate) settings: FactList,
     pub(crate) strikes: FactList,
 }
 
 // The tables of one sheet. The table of effects is lent and filled in place, which the project asks of it: it has room for
 // all that a sheet may have, and places past the count hold nothing of note. The facts' texts stand beside the facts, since
-// these are lent as a slice of their own. The goal is the number of its formula, and 0 in a depot that is empty. Contracts see
-// a depot by `tables_of` and not by a model, for which the formulas of the specification would need a code.
+// these are lent as a slice of their own; no code reads the texts yet: the acceptance of a plan will print them. The goal is
+// the number of its formula; a depot that is empty has none. Contracts see a depot by `tables_of` and not by a model: a
+// model's value needs a code, and the formulas of the specification have none.
 #[derive(Drop)]
 pub struct Depot<K: Kind> {
     pub(crate) names: Names,
@@ -46,6 +48,6 @@ pub struct Depot<K: Kind> {
     pub(crate) effect_count: usize,
     pub(crate) formulas: Vec<Formula<usize>>,
     pub(crate) formula_size: usize,
-    pub(crate) goal: usize,
+    pub(crate) goal: Option<usize>,
     ghost few: { vec_len facts ≤ 128 },
 }

@@ -1,14 +1,14 @@
 // The table of effect records, lent and filled in place.
 ghost use Rattle.std.specs.Prelude.{◌≡◌, [], ◌∷◌, ◌++◌, take, MatchResult};
-ghost use Rattle.sheets.specs.declared.refusals.Refusal.TheVariants.{NoMemory};
 
 use crate::depot::Effect;
 use crate::fact_list::FactList;
-use sheets::refusals::Refusal;
+use std::alloc::AllocError;
 
-// The most effects of a move, and of all moves.
+// The most effects of a move.
 pub(crate) const MOST_OF_MOVE: usize = 16;
 
+// The most effects of all moves together.
 pub(crate) const MOST_EFFECTS: usize = 256;
 
 impl Effect {
@@ -22,13 +22,18 @@ impl Effect {
     }
 }
 
-// Fills the place after so many effects, and tells how many there are then. Only a table for which memory was wanting
-// lacks the place.
-pub(crate) fn fill(effects: &mut [Effect], count: usize, effect: Effect) -> Result<usize, Refusal>
-    ensures { MatchResult result (λ n. take n effects.new ≡ take count effects.old ++ effect ∷ []) (λ w. (w ≡ NoMemory) × (effects.new ≡ effects.old)) }
+// Fills the place after so many effects, and tells how many there are then. A table made by `begin` has a place for each
+// effect that a sheet may have; that of an empty depot has none, which is told as want of memory.
+pub(crate) fn fill(
+    effects: &mut [Effect],
+    count: usize,
+    effect: Effect,
+) -> Result<usize, AllocError>
+    ensures { MatchResult result (λ n. take n effects.new ≡ take count effects.old ++ effect ∷ []) (λ _. effects.new ≡ effects.old) }
 {
+    // No `get_mut`, since of a slice that was written through it a proof knows no element.
     if count >= effects.len() {
-        return Err(Refusal::NoMemory);
+        return Err(AllocError);
     }
     effects[count] = effect;
     Ok(count + 1)

@@ -26,7 +26,7 @@ impl<K: Kind> Depot<K> {
             effect_count: 0,
             formulas: Vec::new(heap),
             formula_size: 0,
-            goal: 0,
+            goal: None,
         }
     }
 }

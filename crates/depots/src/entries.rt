@@ -1,12 +1,12 @@
 // What a line adds to the tables of a depot: names, facts and started facts. A refusal leaves them as they were.
-ghost use Rattle.std.specs.Prelude.{◌≡◌, ℕ, false, [], ◌∷◌, ◌++◌, map, None, Ok, vec_len, nat_le};
+ghost use Rattle.std.specs.Prelude.{◌≡◌, ℕ, false, [], ◌∷◌, ◌++◌, map, Ok, vec_len, nat_le};
 ghost use Rattle.std.specs.Result.{result_err};
 ghost use Rattle.depots.specs.Entries.{Taken};
 ghost use Rattle.depots.specs.Fields.{new_name, new_fact, new_start};
 ghost use Rattle.facts.specs.Numbering.{number_under};
 
 use crate::fields::{new_fact, new_name, new_start};
-use crate::troubles::{judged, only};
+use crate::troubles::{only, refuse_if_full};
 use facts::kinds::Kind;
 use facts::listed_facts::ListedFacts;
 use facts::names::Names;
@@ -21,9 +21,10 @@ pub fn list_name(
     most: usize,
     text: &[u8],
 ) -> Result<(), Refusal>
-    ensures { Taken (new_name names.old.items text.now ∷ None ∷ None ∷ []) (nat_le most (vec_len names.old)) (names.new.items ≡ names.old.items ++ text.now ∷ []) (names.new.items ≡ names.old.items) result }
+    ensures { Taken (new_name names.old.items text.now ∷ []) (nat_le most (vec_len names.old)) (names.new.items ≡ names.old.items ++ text.now ∷ []) (names.new.items ≡ names.old.items) result }
 {
-    judged(new_name(names, text).err(), None, None, names.len() >= most)?;
+    new_name(names, text).map_err(only)?;
+    refuse_if_full(names.len() >= most)?;
     names.push(Name::new(heap, text)?)?;
     Ok(())
 }
@@ -31,7 +32,8 @@ pub fn list_name(
 // The most facts that a sheet lists.
 pub const MOST_FACTS: usize = 128;
 
-// Lists a new fact, with its text beside it.
+// Lists a new fact, with its text beside it. Names, facts and texts come one by one: by a public method of a depot
+// any caller could fill it without its reader.
 pub fn list_fact<K: Kind>(
     heap: Global,
     names: &Names,
@@ -39,14 +41,14 @@ pub fn list_fact<K: Kind>(
     texts: &mut Vec<Name>,
     text: &[u8],
 ) -> Result<(), Refusal>
-    ensures { Taken (result_err (new_fact K.alike K.certain (K.reading names.now text.now) facts.old.items) ∷ None ∷ None ∷ []) (nat_le 128 (vec_len facts.old)) ((f : K.Fact) × (new_fact K.alike K.certain (K.reading names.now text.now) facts.old.items ≡ Ok f) × (facts.new.items ≡ facts.old.items ++ f ∷ []) × (texts.new.items ≡ texts.old.items ++ text.now ∷ [])) ((facts.new.items ≡ facts.old.items) × (texts.new.items ≡ texts.old.items)) result }
+    ensures { Taken (result_err (new_fact K.alike K.certain (K.reading names.now text.now) facts.old.items) ∷ []) (nat_le 128 (vec_len facts.old)) ((f : K.Fact) × (new_fact K.alike K.certain (K.reading names.now text.now) facts.old.items ≡ Ok f) × (facts.new.items ≡ facts.old.items ++ f ∷ []) × (texts.new.items ≡ texts.old.items ++ text.now ∷ [])) ((facts.new.items ≡ facts.old.items) × (texts.new.items ≡ texts.old.items)) result }
 {
     let listed = ListedFacts::<K> {
         names,
         facts: facts.as_slice(),
     };
     let fact = new_fact(&listed, text).map_err(only)?;
-    judged(None, None, None, facts.len() >= MOST_FACTS)?;
+    refuse_if_full(facts.len() >= MOST_FACTS)?;
     let name = Name::new(heap, text)?;
     texts.reserve(1)?;
     facts.push(fact)?;
@@ -60,7 +62,7 @@ pub fn start_fact<K: Kind>(
     started: &mut Vec<usize>,
     text: &[u8],
 ) -> Result<(), Refusal>
-    ensures { Taken (result_err (new_start (number_under K.Kind listed.now text.now) started.old.items) ∷ None ∷ None ∷ []) false ((n : ℕ) × (new_start (number_under K.Kind listed.now text.now) started.old.items ≡ Ok n) × (started.new.items ≡ started.old.items ++ n ∷ [])) (started.new.items ≡ started.old.items) result }
+    ensures { Taken (result_err (new_start (number_under K.Kind listed.now text.now) started.old.items) ∷ []) false ((n : ℕ) × (new_start (number_under K.Kind listed.now text.now) started.old.items ≡ Ok n) × (started.new.items ≡ started.old.items ++ n ∷ [])) (started.new.items ≡ started.old.items) result }
 {
     let number = new_start(listed, started, text).map_err(only)?;
     started.push(number)?;

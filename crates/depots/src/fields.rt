@@ -11,7 +11,8 @@ use facts::listed_facts::ListedFacts;
 use sheets::listed::Name;
 use sheets::{listed, names};
 
-// The second, third and fourth field of a line, empty where the line has none.
+// The second, third and fourth field of a line. One that the line has not is empty and no option: a letter asks for no field
+// that its lines have not.
 #[derive(Clone, Copy)]
 pub struct Fields<'a> {
     pub second: &'a [u8],
@@ -19,7 +20,8 @@ pub struct Fields<'a> {
     pub fourth: &'a [u8],
 }
 
-// What is wrong with a text that is to be a new name, if anything is.
+// What is wrong with a text that is to be a new name, if anything is. It is told whether the name is listed, since names
+// and moves are lists of two kinds, and a trait for that one question would be longer.
 pub(crate) fn unlisted_name(is_listed: bool, text: &[u8]) -> Result<(), Trouble>
     ensures { result_err result ≡ unlisted_name is_listed text.now }
 {

@@ -1,6 +1,6 @@
 // How a field with a formula is read.
-ghost use Rattle.std.specs.Prelude.{◌≡◌, ◌+◌, ◌<◌, MatchResult};
-ghost use Rattle.sheets.specs.declared.refusals.Refusal.TheVariants.{NoMemory, TableFull};
+ghost use Rattle.std.specs.Prelude.{◌≡◌, ◌+◌, ◌<◌, IfOk, MatchResult};
+ghost use Rattle.sheets.specs.declared.refusals.Refusal.TheVariants.{TableFull};
 ghost use Rattle.depots.specs.FormulaFields.{AddedTo, FormulaRead};
 ghost use Rattle.facts.specs.Numbering.{number_under};
 
@@ -11,7 +11,7 @@ use formulas::resolve::Unresolved;
 use formulas::tree::{Formula, Unread};
 use formulas::{reading, resolve, size};
 use sheets::refusals::Refusal;
-use std::alloc::Global;
+use std::alloc::{AllocError, Global};
 
 // A formula over the numbers of listed facts, with its size.
 #[derive(Drop)]
@@ -37,10 +37,11 @@ impl SizedFormula {
         ensures { MatchResult result (AddedTo sum self) (λ w. (w ≡ TableFull) × (1024 < sum + self.size)) }
     {
         let SizedFormula { formula, size } = self;
-        match sum.checked_add(size) {
-            Some(total) if total <= MOST_SIZE => Ok(NewFormula { formula, total }),
-            _ => Err(Refusal::TableFull),
-        }
+        let total = sum
+            .checked_add(size)
+            .filter(|total| *total <= MOST_SIZE)
+            .ok_or(Refusal::TableFull)?;
+        Ok(NewFormula { formula, total })
     }
 }
 
@@ -49,21 +50,21 @@ pub(crate) fn formula_field<K: Kind>(
     heap: Global,
     listed: &ListedFacts<K>,
     text: &[u8],
-) -> Result<Result<SizedFormula, Trouble>, Refusal>
-    ensures { MatchResult result (FormulaRead (number_under K.Kind listed.now) text.now) (λ w. w ≡ NoMemory) }
+) -> Result<Result<SizedFormula, Trouble>, AllocError>
+    ensures { IfOk result (FormulaRead (number_under K.Kind listed.now) text.now) }
 {
     // No `?` here: of each error one case ends the line, and the others are what is wrong with this field.
-    match reading::read(heap, text) {
-        Err(Unread::NoMemory) => Err(Refusal::NoMemory),
-        Err(Unread::NotItsForm) => Ok(Err(Trouble::NotItsForm)),
-        Ok(read) => match resolve::resolve(heap, listed, &read) {
-            Err(Unresolved::NoMemory) => Err(Refusal::NoMemory),
-            Err(Unresolved::NotItsForm) => Ok(Err(Trouble::NotItsForm)),
-            Err(Unresolved::NotListed) => Ok(Err(Trouble::NotListed)),
-            Ok(formula) => Ok(Ok(SizedFormula {
-                formula,
-                size: size::size(&read),
-            })),
-        },
+    let read = match reading::read(heap, text) {
+        Ok(read) => read,
+        Err(Unread::NotItsForm) => return Ok(Err(Trouble::NotItsForm)),
+        Err(Unread::NoMemory) => return Err(AllocError),
+    };
+    match resolve::resolve(heap, listed, &read) {
+        Ok(formula) => Ok(Ok(SizedFormula {
+            formula,
+            size: size::size(&read),
+        })),
+        Err(Unresolved::NoFact(why)) => Ok(Err(why.into())),
+        Err(Unresolved::NoMemory) => Err(AllocError),
     }
 }

@@ -1,6 +1,5 @@
 // Entries put into the tables of a depot. Only want of memory keeps one out.
-ghost use Rattle.std.specs.Prelude.{◌≡◌, [], ◌∷◌, ◌++◌, length, MatchResult};
-ghost use Rattle.sheets.specs.declared.refusals.Refusal.TheVariants.{NoMemory};
+ghost use Rattle.std.specs.Prelude.{◌≡◌, [], ◌∷◌, ◌++◌, length, IfOk};
 ghost use Rattle.depots.specs.FormulaFields.{with_formula};
 ghost use Rattle.depots.specs.Settings.{numbers_of};
 ghost use Rattle.depots.specs.Tables.{tables_of, with_effects, with_moves};
@@ -11,13 +10,12 @@ use crate::fact_list::FactList;
 use crate::formula_field::NewFormula;
 use facts::kinds::Kind;
 use sheets::listed::Name;
-use sheets::refusals::Refusal;
-use std::alloc::Global;
+use std::alloc::{AllocError, Global};
 
 impl<K: Kind> Depot<K> {
     // One formula more, which is then listed last.
-    pub(crate) fn push_formula(&mut self, new: NewFormula) -> Result<(), Refusal>
-        ensures { MatchResult result (λ _. tables_of self.new ≡ with_formula (tables_of self.old) new) (λ w. w ≡ NoMemory) }
+    pub(crate) fn push_formula(&mut self, new: NewFormula) -> Result<(), AllocError>
+        ensures { IfOk result (λ _. tables_of self.new ≡ with_formula (tables_of self.old) new) }
     {
         let NewFormula { formula, total } = new;
         self.formulas.push(formula)?;
@@ -26,8 +24,8 @@ impl<K: Kind> Depot<K> {
     }
 
     // One move more, whose need is the formula listed last.
-    pub(crate) fn push_move(&mut self, heap: Global, name: &[u8]) -> Result<(), Refusal>
-        ensures { MatchResult result (λ _. tables_of self.new ≡ with_moves (tables_of self.old) ((tables_of self.old).names ++ name.now ∷ []) ((tables_of self.old).moves ++ record { need = length (tables_of self.old).formulas; effects_before = length (tables_of self.old).effects } ∷ [])) (λ w. w ≡ NoMemory) }
+    pub(crate) fn push_move(&mut self, heap: Global, name: &[u8]) -> Result<(), AllocError>
+        ensures { let t = tables_of self.old in IfOk result (λ _. tables_of self.new ≡ with_moves t (t.names ++ name.now ∷ []) (t.moves ++ record { need = length t.formulas; effects_before = length t.effects } ∷ [])) }
     {
         let name = Name::new(heap, name)?;
         let numbers = Move {
@@ -43,8 +41,8 @@ impl<K: Kind> Depot<K> {
         &mut self,
         settings: FactList,
         strikes: FactList,
-    ) -> Result<(), Refusal>
-        ensures { MatchResult result (λ _. tables_of self.new ≡ with_effects (tables_of self.old) ((tables_of self.old).effects ++ record { condition = length (tables_of self.old).formulas; settings = numbers_of settings; strikes = numbers_of strikes } ∷ [])) (λ w. w ≡ NoMemory) }
+    ) -> Result<(), AllocError>
+        ensures { let t = tables_of self.old in IfOk result (λ _. tables_of self.new ≡ with_effects t (t.effects ++ record { condition = length t.formulas; settings = numbers_of settings; strikes = numbers_of strikes } ∷ [])) }
     {
         let new = Effect {
             condition: self.formulas.len(),

@@ -3,21 +3,20 @@ ghost use Rattle.std.specs.Prelude.{◌≡◌, [], slice_index_or};
 ghost use Rattle.sheets.specs.Lines.{shown};
 ghost use Rattle.sheets.specs.Pieces.{pieces};
 ghost use Rattle.depots.specs.Kinds.{meaning_of};
-ghost use Rattle.depots.specs.Spelling.{LineAdded, LineTaken, fields_on};
+ghost use Rattle.depots.specs.Spelling.{LineAdded, fields_on};
 ghost use Rattle.depots.specs.Tables.{tables_of};
+ghost use Rattle.depots.specs.Taking.{TakesLine};
 ghost use Rattle.depots.specs.Wrong.{shown_fields};
 
 use crate::depot::Depot;
 use crate::fields::Fields;
 use facts::text_kinds::TextKind;
-use sheets::layout::Above;
+use sheets::layout::{Above, TAB};
 use sheets::letters::Letter;
 use sheets::lines::Line;
 use sheets::pieces;
 use sheets::refusals::Refusal;
 use std::alloc::Global;
-
-const TAB: u8 = 9;
 
 // The field at an index counted from 0, empty where there is none.
 fn field<'a>(text: &'a [u8], index: usize) -> &'a [u8]
@@ -40,7 +39,7 @@ fn fields_of<'a>(line: &Line<'a>) -> Fields<'a>
 impl<K: TextKind> Depot<K> {
     // Takes a line with a letter into the tables.
     fn take(&mut self, heap: Global, letter: Letter, fields: Fields) -> Result<(), Refusal>
-        ensures { LineTaken (meaning_of K.Kind K.reading_under) (tables_of self.old) letter (shown_fields fields.entry) result (tables_of self.new) }
+        ensures { TakesLine K.Kind K.reading_under self.old letter fields.entry result self.new }
     {
         // A match, since the letters are a closed list, and closures in a table would borrow the depot all at once.
         match letter {

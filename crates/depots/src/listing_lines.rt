@@ -1,9 +1,7 @@
-// The lines that name the kind, list zones, matters and facts, and start facts.
+// The lines that name the kind, list zones, matters and facts, and start facts: a function each, since each has a promise
+// of its own.
 ghost use Rattle.sheets.specs.declared.letters.Letter.TheVariants as letter;
-ghost use Rattle.depots.specs.Kinds.{meaning_of};
-ghost use Rattle.depots.specs.Spelling.{LineTaken};
-ghost use Rattle.depots.specs.Tables.{tables_of};
-ghost use Rattle.depots.specs.Wrong.{shown_fields};
+ghost use Rattle.depots.specs.Taking.{TakesLine};
 
 use crate::depot::Depot;
 use crate::entries::{list_fact, list_name, start_fact};
@@ -20,7 +18,7 @@ const MOST_MATTERS: usize = 64;
 
 impl<K: TextKind> Depot<K> {
     pub(crate) fn take_kind(&self, fields: Fields) -> Result<(), Refusal>
-        ensures { LineTaken (meaning_of K.Kind K.reading_under) (tables_of self.now) letter.Kind (shown_fields fields.entry) result (tables_of self.now) }
+        ensures { TakesLine K.Kind K.reading_under self.now letter.Kind fields.entry result self.now }
     {
         if !K::is_word(fields.second) {
             return Err(only(Trouble::NotItsForm));
@@ -29,19 +27,19 @@ impl<K: TextKind> Depot<K> {
     }
 
     pub(crate) fn take_zone(&mut self, heap: Global, fields: Fields) -> Result<(), Refusal>
-        ensures { LineTaken (meaning_of K.Kind K.reading_under) (tables_of self.old) letter.Zone (shown_fields fields.entry) result (tables_of self.new) }
+        ensures { TakesLine K.Kind K.reading_under self.old letter.Zone fields.entry result self.new }
     {
         list_name(heap, &mut self.names.zones, MOST_ZONES, fields.second)
     }
 
     pub(crate) fn take_matter(&mut self, heap: Global, fields: Fields) -> Result<(), Refusal>
-        ensures { LineTaken (meaning_of K.Kind K.reading_under) (tables_of self.old) letter.Matter (shown_fields fields.entry) result (tables_of self.new) }
+        ensures { TakesLine K.Kind K.reading_under self.old letter.Matter fields.entry result self.new }
     {
         list_name(heap, &mut self.names.matters, MOST_MATTERS, fields.second)
     }
 
     pub(crate) fn take_fact(&mut self, heap: Global, fields: Fields) -> Result<(), Refusal>
-        ensures { LineTaken (meaning_of K.Kind K.reading_under) (tables_of self.old) letter.Fact (shown_fields fields.entry) result (tables_of self.new) }
+        ensures { TakesLine K.Kind K.reading_under self.old letter.Fact fields.entry result self.new }
     {
         list_fact::<K>(
             heap,
@@ -53,7 +51,7 @@ impl<K: TextKind> Depot<K> {
     }
 
     pub(crate) fn take_start(&mut self, fields: Fields) -> Result<(), Refusal>
-        ensures { LineTaken (meaning_of K.Kind K.reading_under) (tables_of self.old) letter.Start (shown_fields fields.entry) result (tables_of self.new) }
+        ensures { TakesLine K.Kind K.reading_under self.old letter.Start fields.entry result self.new }
     {
         // Not by `listed()`, which would borrow the started facts too.
         let listed = ListedFacts::<K> {

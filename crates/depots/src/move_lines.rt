@@ -1,52 +1,41 @@
 // The lines of moves, their effects and the goal.
 ghost use Rattle.sheets.specs.declared.letters.Letter.TheVariants as letter;
 ghost use Rattle.std.specs.Prelude.{Decides};
-ghost use Rattle.depots.specs.EffectFields.{EffectRead, EffectsFull};
-ghost use Rattle.depots.specs.FormulaFields.{with_formula};
-ghost use Rattle.depots.specs.Kinds.{meaning_of};
-ghost use Rattle.depots.specs.Spelling.{AddsFormula, LineRead, LineTaken};
+ghost use Rattle.depots.specs.MoveLines.{EffectRead, EffectsFull, GoalRead, NeedRead};
 ghost use Rattle.depots.specs.Tables.{tables_of};
-ghost use Rattle.depots.specs.Wrong.{shown_fields};
+ghost use Rattle.depots.specs.Taking.{ReadsLine, TakesLine};
 
-use crate::depot::Depot;
+use crate::depot::{Depot, Effect};
 use crate::effect_table::{MOST_EFFECTS, MOST_OF_MOVE};
-use crate::fact_list::FactList;
 use crate::fields::Fields;
 use crate::formula_field::NewFormula;
-use crate::troubles::all_read;
+use crate::troubles::{at_field, both, only, refuse_if_full};
 use facts::text_kinds::TextKind;
 use sheets::refusals::Refusal;
 use std::alloc::Global;
 
 const MOST_MOVES: usize = 64;
 
-// What a line adds that has an effect.
-#[derive(Drop)]
-pub struct NewEffect {
-    pub(crate) condition: NewFormula,
-    pub(crate) settings: FactList,
-    pub(crate) strikes: FactList,
-}
-
 impl<K: TextKind> Depot<K> {
     // The need of a move that a line lists.
     fn read_move(&self, heap: Global, fields: Fields) -> Result<NewFormula, Refusal>
-        ensures { LineRead (meaning_of K.Kind K.reading_under) (tables_of self.now) letter.Move (shown_fields fields.entry) (λ new. AddsFormula (meaning_of K.Kind K.reading_under) (tables_of self.now) (shown_fields fields.entry).third (with_formula (tables_of self.now) new)) result }
+        ensures { ReadsLine K.Kind K.reading_under self.now letter.Move fields.entry NeedRead result }
     {
-        let need = self.formula(heap, fields.third)?;
-        let (_, need, _) = all_read(self.new_move_name(fields.second), need, Ok(()))?;
-        if self.moves.len() >= MOST_MOVES {
-            return Err(Refusal::TableFull);
-        }
+        let (_, need) = both(
+            at_field(2, self.new_move_name(fields.second)),
+            at_field(3, self.formula(heap, fields.third)?),
+        )?;
+        refuse_if_full(self.moves.len() >= MOST_MOVES)?;
         need.added_to(self.formula_size)
     }
 
     pub(crate) fn take_move(&mut self, heap: Global, fields: Fields) -> Result<(), Refusal>
-        ensures { LineTaken (meaning_of K.Kind K.reading_under) (tables_of self.old) letter.Move (shown_fields fields.entry) result (tables_of self.new) }
+        ensures { TakesLine K.Kind K.reading_under self.old letter.Move fields.entry result self.new }
     {
         let need = self.read_move(heap, fields)?;
         self.push_formula(need)?;
-        self.push_move(heap, fields.second)
+        self.push_move(heap, fields.second)?;
+        Ok(())
     }
 
     // Whether the last move has as many effects as it may, or the table of effects is full.
@@ -58,18 +47,18 @@ impl<K: TextKind> Depot<K> {
     }
 
     // The effect that a line lists.
-    fn read_effect(&self, heap: Global, fields: Fields) -> Result<NewEffect, Refusal>
-        ensures { LineRead (meaning_of K.Kind K.reading_under) (tables_of self.now) letter.Effect (shown_fields fields.entry) (EffectRead (meaning_of K.Kind K.reading_under) (tables_of self.now) (shown_fields fields.entry)) result }
+    fn read_effect(&self, heap: Global, fields: Fields) -> Result<Effect<NewFormula>, Refusal>
+        ensures { ReadsLine K.Kind K.reading_under self.now letter.Effect fields.entry EffectRead result }
     {
-        let (condition, settings, strikes) = all_read(
-            self.formula(heap, fields.second)?,
-            self.listed_facts(fields.third),
-            self.listed_facts(fields.fourth),
+        let (condition, (settings, strikes)) = both(
+            at_field(2, self.formula(heap, fields.second)?),
+            both(
+                at_field(3, self.listed_facts(fields.third)),
+                at_field(4, self.listed_facts(fields.fourth)),
+            ),
         )?;
-        if self.effects_full() {
-            return Err(Refusal::TableFull);
-        }
-        Ok(NewEffect {
+        refuse_if_full(self.effects_full())?;
+        Ok(Effect {
             condition: condition.added_to(self.formula_size)?,
             settings,
             strikes,
@@ -77,31 +66,32 @@ impl<K: TextKind> Depot<K> {
     }
 
     pub(crate) fn take_effect(&mut self, heap: Global, fields: Fields) -> Result<(), Refusal>
-        ensures { LineTaken (meaning_of K.Kind K.reading_under) (tables_of self.old) letter.Effect (shown_fields fields.entry) result (tables_of self.new) }
+        ensures { TakesLine K.Kind K.reading_under self.old letter.Effect fields.entry result self.new }
     {
-        let NewEffect {
+        let Effect {
             condition,
             settings,
             strikes,
         } = self.read_effect(heap, fields)?;
         self.push_formula(condition)?;
-        self.push_effect(settings, strikes)
+        self.push_effect(settings, strikes)?;
+        Ok(())
     }
 
     // The goal that a line has.
     fn read_goal(&self, heap: Global, fields: Fields) -> Result<NewFormula, Refusal>
-        ensures { LineRead (meaning_of K.Kind K.reading_under) (tables_of self.now) letter.Goal (shown_fields fields.entry) (λ new. AddsFormula (meaning_of K.Kind K.reading_under) (tables_of self.now) (shown_fields fields.entry).second (with_formula (tables_of self.now) new)) result }
+        ensures { ReadsLine K.Kind K.reading_under self.now letter.Goal fields.entry GoalRead result }
     {
-        let (goal, _, _) = all_read(self.formula(heap, fields.second)?, Ok(()), Ok(()))?;
+        let goal = self.formula(heap, fields.second)?.map_err(only)?;
         goal.added_to(self.formula_size)
     }
 
     pub(crate) fn take_goal(&mut self, heap: Global, fields: Fields) -> Result<(), Refusal>
-        ensures { LineTaken (meaning_of K.Kind K.reading_under) (tables_of self.old) letter.Goal (shown_fields fields.entry) result (tables_of self.new) }
+        ensures { TakesLine K.Kind K.reading_under self.old letter.Goal fields.entry result self.new }
     {
         let goal = self.read_goal(heap, fields)?;
         self.push_formula(goal)?;
-        self.goal = self.formulas.len();
+        self.goal = Some(self.formulas.len());
         Ok(())
     }
 }

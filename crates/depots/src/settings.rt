@@ -1,14 +1,14 @@
 // How a field of settings or strikes is read.
-ghost use Rattle.std.specs.Prelude.{◌≡◌, ◌+◌, ◌<◌, ◌≤◌, [], ◌∷◌, ◌++◌, map, length, Err, MatchResult};
+ghost use Rattle.std.specs.Prelude.{◌≡◌, ◌≤◌, [], map, length};
+ghost use Rattle.std.specs.List.{list_all};
 ghost use Rattle.depots.specs.Settings.{numbers_of, Comes, repeats, gathered, list_reading};
-ghost use Rattle.facts.specs.Numbering.{number_under};
+ghost use Rattle.facts.specs.Numbering.{has_form, number_under};
 ghost use Rattle.sheets.specs.Pieces.{pieces};
 
 use crate::fact_list::{FactList, MOST};
 use crate::troubles::Trouble;
 use facts::kinds::Kind;
 use facts::listed_facts::ListedFacts;
-use facts::names::NoFact;
 use facts::short_list::ShortList;
 use sheets::pieces;
 
@@ -33,50 +33,42 @@ impl FactList {
     }
 }
 
-// A list that was read, with one number more, or what was wrong before.
-fn and_number(read: Result<FactList, Trouble>, number: usize) -> Result<FactList, Trouble>
-    ensures { MatchResult read (λ l. MatchResult result (λ more. numbers_of more ≡ numbers_of l ++ number ∷ []) (λ _. 8 ≤ length (numbers_of l))) (λ t. result ≡ Err t) }
-{
-    let mut list = read?;
-    match list.kept.push(number) {
-        Ok(()) => Ok(list),
-        Err(_) => Err(Trouble::NotItsForm),
-    }
-}
-
-// Whether a number is twice in a row of them.
+// Whether a number is twice in a row of them. A step asks where its first repeat is, by a chain of its own.
 fn has_repeat(numbers: &[usize]) -> bool
     ensures { result ≡ repeats numbers.now }
 {
-    let mut rest = numbers;
-    while let Some((first, later)) = rest.split_first() {
-        if later.contains(first) {
-            return true;
-        }
-        rest = later;
-    }
-    false
+    numbers
+        .iter()
+        .enumerate()
+        .any(|(i, number)| numbers[i + 1..].contains(number))
 }
 
-// The numbers of the facts that stand between the commas of a text. A `for` over the library's `split` gets no proof here,
-// since the function has a type parameter, so the text is cut by hand.
+// Whether each part between the commas of a text has the form of a fact, be it listed or not.
+fn all_formed<K: Kind>(listed: &ListedFacts<K>, text: &[u8]) -> bool
+    ensures { result ≡ list_all (λ part. has_form (number_under K.Kind listed.now part)) (pieces 44 text.now) }
+{
+    text.split(|b| *b == COMMA)
+        .all(|part| listed.has_form(part))
+}
+
+// The numbers of the facts that stand between the commas of a text. The form of every fact is judged before any is told as
+// not listed. The text is cut by hand: of a `for` over `split`, in a function with a type parameter, the check refuses a
+// module that it made itself.
 fn gather<K: Kind>(listed: &ListedFacts<K>, text: &[u8]) -> Result<FactList, Trouble>
     requires { length (pieces 44 text.now) ≤ 8 }
     ensures { Comes (gathered (map (number_under K.Kind listed.now) (pieces 44 text.now))) result }
 {
-    let mut read = Ok(FactList::none());
+    if !all_formed(listed, text) {
+        return Err(Trouble::NotItsForm);
+    }
+    let mut list = FactList::none();
     let mut rest = Some(text);
     while let Some(more) = rest {
         let (part, after) = pieces::cut(more, COMMA);
-        match listed.number_of(part) {
-            Ok(number) => read = and_number(read, number),
-            // No `?`, since a part without its form may still follow, and is told before this.
-            Err(NoFact::NotListed) => read = Err(Trouble::NotListed),
-            Err(NoFact::NotItsForm) => return Err(Trouble::NotItsForm),
-        }
+        list.kept.push(listed.number_of(part)?).unwrap();
         rest = after;
     }
-    read
+    Ok(list)
 }
 
 // The facts that a field of settings or strikes lists.
@@ -86,7 +78,7 @@ pub fn fact_list<K: Kind>(listed: &ListedFacts<K>, text: &[u8]) -> Result<FactLi
     if text == b"-".as_slice() {
         return Ok(FactList::none());
     }
-    if !pieces::has_at_most(text, COMMA, MOST) {
+    if pieces::count(text, COMMA) > MOST {
         return Err(Trouble::NotItsForm);
     }
     let list = gather(listed, text)?;

@@ -1,6 +1,5 @@
 // A depot sheet, read line by line.
-ghost use Rattle.std.specs.Prelude.{◌≡◌, IsOkUnless, MatchResult};
-ghost use Rattle.sheets.specs.declared.refusals.Refusal.TheVariants.{NoMemory};
+ghost use Rattle.std.specs.Prelude.{◌≡◌, MatchResult};
 ghost use Rattle.depots.specs.Kinds.{meaning_of};
 ghost use Rattle.depots.specs.Spelling.{DepotRead, DepotTold, Placed};
 ghost use Rattle.depots.specs.Tables.{no_tables, tables_of};
@@ -9,10 +8,10 @@ use crate::depot::{Depot, Effect};
 use crate::effect_table::MOST_EFFECTS;
 use facts::text_kinds::TextKind;
 use sheets::faults::{Fault, Sheet};
-use sheets::layout::{Above, DEPOT_LIMIT};
+use sheets::layout::{Above, judge_limit};
 use sheets::lines::Lines;
 use sheets::refusals::Refusal;
-use std::alloc::Global;
+use std::alloc::{AllocError, Global};
 
 // A refusal with the line at which it is told; that memory was wanting speaks of no sheet.
 fn at_line(line: usize, refusal: Refusal) -> Fault
@@ -30,9 +29,8 @@ fn at_line(line: usize, refusal: Refusal) -> Fault
 
 impl<K: TextKind> Depot<K> {
     // Empties the depot and makes room for as many effects as a sheet may have, unless memory is wanting.
-    fn begin(&mut self, heap: Global) -> Result<(), Refusal>
-        ensures tables { tables_of self.new ≡ no_tables }
-        ensures memory { IsOkUnless result NoMemory }
+    fn begin(&mut self, heap: Global) -> Result<(), AllocError>
+        ensures { tables_of self.new ≡ no_tables }
     {
         *self = Depot::empty(heap);
         self.effects = vec![in heap; Effect::none(); MOST_EFFECTS]?;
@@ -44,22 +42,17 @@ impl<K: TextKind> Depot<K> {
         requires { tables_of self.old ≡ no_tables }
         ensures { MatchResult result (λ _. DepotRead (meaning_of K.Kind K.reading_under) sheet.now (tables_of self.new)) (DepotTold (meaning_of K.Kind K.reading_under) sheet.now) }
     {
-        if sheet.len() > DEPOT_LIMIT {
-            return Err(Fault::on(Sheet::Depot, 0, Refusal::OverLimit));
-        }
+        judge_limit(sheet)?;
         let mut above = Above::nothing();
         // As `judge_layout` of `sheets` walks over them, which says why the walk is written twice.
         for (i, line) in Lines::of(sheet).enumerate() {
-            match self.read_line(heap, &above, &line) {
-                Ok(letter) => above = above.below(&line, letter),
-                Err(refusal) => return Err(at_line(i + 1, refusal)),
-            }
+            let number = i + 1;
+            let letter = self
+                .read_line(heap, &above, &line)
+                .map_err(|refusal| at_line(number, refusal))?;
+            above = above.below(&line, letter);
         }
-        if !above.is_goal() {
-            let count = Lines::of(sheet).count();
-            return Err(Fault::on(Sheet::Depot, count, Refusal::NoGoal));
-        }
-        Ok(())
+        above.judge_end(sheet)
     }
 
     // Reads a depot sheet: the depot then has the tables that the sheet spells, or the sheet is refused for its lowest fault
@@ -67,8 +60,9 @@ impl<K: TextKind> Depot<K> {
     pub fn read(&mut self, heap: Global, sheet: &[u8]) -> Result<(), Fault>
         ensures { MatchResult result (λ _. DepotRead (meaning_of K.Kind K.reading_under) sheet.now (tables_of self.new)) (λ f. DepotTold (meaning_of K.Kind K.reading_under) sheet.now f × (tables_of self.new ≡ no_tables)) }
     {
-        self.begin(heap).map_err(|refusal| at_line(0, refusal))?;
+        self.begin(heap).map_err(|error| at_line(0, error.into()))?;
         let read = self.read_lines(heap, sheet);
+        // No `inspect_err`, since no clause says that its closure leaves the depot as it is where no error calls it.
         if read.is_err() {
             *self = Depot::empty(heap);
         }

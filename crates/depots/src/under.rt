@@ -1,7 +1,6 @@
 // Fields read under the tables that the lines above have filled.
-ghost use Rattle.std.specs.Prelude.{◌≡◌, map, MatchResult};
+ghost use Rattle.std.specs.Prelude.{◌≡◌, map, IfOk};
 ghost use Rattle.std.specs.Result.{result_err};
-ghost use Rattle.sheets.specs.declared.refusals.Refusal.TheVariants.{NoMemory};
 ghost use Rattle.depots.specs.Fields.{new_name};
 ghost use Rattle.depots.specs.FormulaFields.{FormulaRead};
 ghost use Rattle.depots.specs.Kinds.{meaning_of};
@@ -18,8 +17,7 @@ use crate::troubles::Trouble;
 use facts::kinds::Kind;
 use facts::listed_facts::ListedFacts;
 use facts::text_kinds::TextKind;
-use sheets::refusals::Refusal;
-use std::alloc::Global;
+use std::alloc::{AllocError, Global};
 
 impl<K: TextKind> Depot<K> {
     // What a field with a formula holds.
@@ -27,8 +25,8 @@ impl<K: TextKind> Depot<K> {
         &self,
         heap: Global,
         text: &[u8],
-    ) -> Result<Result<SizedFormula, Trouble>, Refusal>
-        ensures { MatchResult result (FormulaRead (number_among (meaning_of K.Kind K.reading_under) (tables_of self.now)) text.now) (λ w. w ≡ NoMemory) }
+    ) -> Result<Result<SizedFormula, Trouble>, AllocError>
+        ensures { IfOk result (FormulaRead (number_among (meaning_of K.Kind K.reading_under) (tables_of self.now)) text.now) }
     {
         formula_field(heap, &self.listed(), text)
     }
@@ -60,21 +58,20 @@ impl<K: Kind> Depot<K> {
         unlisted_name(self.moves.iter().any(|listed| listed.name.is(text)), text)
     }
 
-    // The effects so far.
+    // The effects so far. Cut to the table: that the count is within it would ask a proof of each line that adds an effect.
     pub(crate) fn effects(&self) -> &[Effect]
         ensures { map effect_of result.now ≡ (tables_of self.now).effects }
     {
         let count = self.effect_count.min(self.effects.len());
-        &self.effects[0..count]
+        &self.effects[..count]
     }
 
     // How many effects stand before those of the last move.
     pub(crate) fn before_last(&self) -> usize
         ensures { result ≡ before_last (tables_of self.now).moves }
     {
-        match self.moves.last() {
-            Some(last) => last.numbers.effects_before,
-            None => 0,
-        }
+        self.moves
+            .last()
+            .map_or(0, |last| last.numbers.effects_before)
     }
 }

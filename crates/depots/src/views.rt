@@ -1,27 +1,22 @@
 // What others see of a depot: its tables, by number.
-ghost use Rattle.std.specs.Prelude.{◌≡◌, map, length, ◌==◌};
+ghost use Rattle.std.specs.Prelude.{◌≡◌, map, length, is_none};
 ghost use Rattle.std.specs.Option.{option_map};
 ghost use Rattle.formulas.specs.Shapes.{numbers};
-ghost use Rattle.depots.specs.Moves.{effects_of, end_of, entry_at, need_of};
+ghost use Rattle.sheets.specs.Numbered.{entry_at};
+ghost use Rattle.depots.specs.Moves.{effects_of, end_of, need_of};
 ghost use Rattle.depots.specs.Tables.{effect_of, tables_of};
 
 use crate::depot::{Depot, Effect};
 use facts::kinds::Kind;
 use formulas::tree::Formula;
-
-// The entry with a number, counted from 1, if there is one.
-fn entry_at<T>(entries: &[T], number: usize) -> Option<&T>
-    ensures { option_map (λ x. x.now) result ≡ entry_at entries.now number }
-{
-    entries.get(number.checked_sub(1)?)
-}
+use sheets::numbered::entry_at;
 
 impl<K: Kind> Depot<K> {
     // Whether nothing was read into the depot: it has no goal.
     pub fn is_empty(&self) -> bool
-        ensures { result ≡ ((tables_of self.now).goal == 0) }
+        ensures { result ≡ is_none (tables_of self.now).goal }
     {
-        self.goal == 0
+        self.goal.is_none()
     }
 
     // The listed facts.
@@ -52,24 +47,21 @@ impl<K: Kind> Depot<K> {
         self.moves.len()
     }
 
-    // The formula number of a move's need; 0 for a move that is not listed.
-    pub fn need_of(&self, number: usize) -> usize
+    // The formula number of a move's need, if the move is listed.
+    pub fn need_of(&self, number: usize) -> Option<usize>
         ensures { result ≡ need_of (tables_of self.now).moves number }
     {
-        match entry_at(&self.moves, number) {
-            Some(listed) => listed.numbers.need,
-            None => 0,
-        }
+        entry_at(&self.moves, number).map(|listed| listed.numbers.need)
     }
 
-    // How many effects stand before those of the next move.
+    // How many effects stand before those of the next move: numbers go from 1 and `get` from 0, so it gets the next one.
     fn effects_end(&self, number: usize) -> usize
         ensures { result ≡ end_of (tables_of self.now).moves (length (tables_of self.now).effects) number }
     {
-        match self.moves.get(number) {
-            Some(next) => next.numbers.effects_before,
-            None => self.effects().len(),
-        }
+        let all = self.effects().len();
+        self.moves
+            .get(number)
+            .map_or(all, |next| next.numbers.effects_before)
     }
 
     // The effects of a move; none for one that is not listed.
@@ -80,6 +72,8 @@ impl<K: Kind> Depot<K> {
             return &[];
         };
         let effects = self.effects();
+        // Cut to what there is: the ends are in order, but to state that would ask a proof of each line that adds a move or
+        // an effect.
         let first = listed.numbers.effects_before.min(effects.len());
         let end = self.effects_end(number).min(effects.len()).max(first);
         &effects[first..end]

@@ -1,5 +1,5 @@
 // Depot sheets with what the rules say of each, worked out by hand: the line, the number and the field of the refusal, 0 where
-// unused, and 0, 0 and 0 where the sheet is read.
+// unused, or none where the sheet is read.
 use crate::verdicts::Verdict;
 use depots::any_depot;
 use depots::depot::Depot;
@@ -11,11 +11,11 @@ use std::alloc::{AllocError, Global};
 use std::process::Abort;
 use std::test::Fail;
 
-// The end of a sheet, and the line, the number and the field of its verdict, as a report prints them.
-type Row = (&'static str, usize, u8, usize);
+// The end of a sheet, and the line, the number and the field of its verdict, or none where the sheet is read.
+type Row = (&'static str, Option<(usize, u8, usize)>);
 
 // What is told of a sheet. That memory was wanting fails the test and is no verdict.
-fn verdict(heap: Global, sheet: &[u8]) -> Result<Verdict, AllocError> {
+fn verdict(heap: Global, sheet: &[u8]) -> Result<Option<Verdict>, AllocError> {
     match any_depot::read(heap, sheet).err() {
         Some(
             Fault {
@@ -23,181 +23,174 @@ fn verdict(heap: Global, sheet: &[u8]) -> Result<Verdict, AllocError> {
                 ..
             },
         ) => Err(AllocError),
-        told => Ok(Verdict::of(told)),
+        told => Ok(told.map(Verdict::from)),
     }
 }
 
 // Each row is the end of a sheet that begins with the same lines.
 fn check_rows(rt: &impl Abort, heap: Global, top: &str, rows: &[Row]) -> Result<(), Fail> {
-    for row in rows {
-        let (bottom, line, number, field) = *row;
+    for (bottom, told) in rows {
+        let told = told.map(Verdict::from);
         let sheet = format!(in heap; "{top}{bottom}")?;
-        let told = Verdict {
-            line,
-            number,
-            field,
-        };
         assert_eq!(rt; verdict(heap, sheet.as_bytes())?, told, "{bottom}");
     }
     Ok(())
 }
 
-// Lines, their letters and their numbers of fields.
+// Lines, their letters and their numbers of fields: what `layouts` asks of the layout alone, asked of the whole sheet.
 const LAYOUTS: &[Row] = &[
-    ("", 0, 10, 0),
-    ("K\tplain\nG\t()\n", 0, 0, 0),
-    ("K\tplain\nG\t()", 2, 2, 0),
-    ("\n", 1, 3, 0),
-    ("K\tplain\n\nG\t()\n", 2, 3, 0),
+    ("", Some((0, 10, 0))),
+    ("K\tplain\nG\t()\n", None),
+    ("K\tplain\nG\t()", Some((2, 2, 0))),
+    ("\n", Some((1, 3, 0))),
+    ("K\tplain\n\nG\t()\n", Some((2, 3, 0))),
     (
         "K\tplain\nP\ta\nF\ta\nI\ta\nM\tm\ta\nE\ta\ta\t-\nM\tn\t()\nG\ta\n",
-        0,
-        0,
-        0,
+        None,
     ),
-    ("K\tsight\nZ\tz\nZ\ty\nP\ta\nG\t()\n", 0, 0, 0),
-    ("K\tsight\nG\t()\n", 0, 0, 0),
-    ("K\tplain\n", 1, 10, 0),
-    ("K\tplain\nP\ta\n", 2, 10, 0),
+    ("K\tsight\nZ\tz\nZ\ty\nP\ta\nG\t()\n", None),
+    ("K\tsight\nG\t()\n", None),
+    ("K\tplain\n", Some((1, 10, 0))),
+    ("K\tplain\nP\ta\n", Some((2, 10, 0))),
     // each letter out of place
-    ("P\ta\nG\t()\n", 1, 3, 0),
-    ("K\tplain\nK\tplain\n", 2, 3, 0),
-    ("K\tplain\nZ\tz\n", 2, 3, 0),
-    ("K\tsight\nP\ta\nZ\tz\n", 3, 3, 0),
-    ("K\tplain\nP\ta\nF\ta\nP\tb\n", 4, 3, 0),
-    ("K\tplain\nP\ta\nF\ta\nI\ta\nF\ta\n", 5, 3, 0),
-    ("K\tplain\nM\tm\t()\nI\ta\n", 3, 3, 0),
-    ("K\tplain\nE\t()\t-\t-\n", 2, 3, 0),
-    ("K\tplain\nG\t()\nM\tm\t()\n", 3, 3, 0),
-    ("K\tplain\nG\t()\nG\t()\n", 3, 3, 0),
-    ("K\tplain\nG\t()\n ", 3, 2, 0),
-    ("K\tplain\nG\t(\nG\t()\n", 2, 5, 2),
-    ("k\tplain\n", 1, 3, 0),
-    ("KK\tplain\n", 1, 3, 0),
-    ("\tplain\n", 1, 3, 0),
-    ("X\tplain\n", 1, 3, 0),
+    ("P\ta\nG\t()\n", Some((1, 3, 0))),
+    ("K\tplain\nK\tplain\n", Some((2, 3, 0))),
+    ("K\tplain\nZ\tz\n", Some((2, 3, 0))),
+    ("K\tsight\nP\ta\nZ\tz\n", Some((3, 3, 0))),
+    ("K\tplain\nP\ta\nF\ta\nP\tb\n", Some((4, 3, 0))),
+    ("K\tplain\nP\ta\nF\ta\nI\ta\nF\ta\n", Some((5, 3, 0))),
+    ("K\tplain\nM\tm\t()\nI\ta\n", Some((3, 3, 0))),
+    ("K\tplain\nE\t()\t-\t-\n", Some((2, 3, 0))),
+    ("K\tplain\nG\t()\nM\tm\t()\n", Some((3, 3, 0))),
+    ("K\tplain\nG\t()\nG\t()\n", Some((3, 3, 0))),
+    ("K\tplain\nG\t()\n ", Some((3, 2, 0))),
+    ("K\tplain\nG\t(\nG\t()\n", Some((2, 5, 2))),
+    ("k\tplain\n", Some((1, 3, 0))),
+    ("KK\tplain\n", Some((1, 3, 0))),
+    ("\tplain\n", Some((1, 3, 0))),
+    ("X\tplain\n", Some((1, 3, 0))),
     // numbers of fields
-    ("K\n", 1, 4, 0),
-    ("K\tplain\t\n", 1, 4, 0),
-    ("K\tplain\nM\tm\n", 2, 4, 0),
-    ("K\tplain\nM\tm\t()\nE\t()\t-\n", 3, 4, 0),
-    ("K\tplain\nG\t()\t()\n", 2, 4, 0),
+    ("K\n", Some((1, 4, 0))),
+    ("K\tplain\t\n", Some((1, 4, 0))),
+    ("K\tplain\nM\tm\n", Some((2, 4, 0))),
+    ("K\tplain\nM\tm\t()\nE\t()\t-\n", Some((3, 4, 0))),
+    ("K\tplain\nG\t()\t()\n", Some((2, 4, 0))),
     // bytes
-    ("K\tpl\0in\nG\t()\n", 1, 2, 0),
-    ("K\tplain\r\nG\t()\n", 1, 2, 0),
-    ("K\tpl in\nG\t()\n", 1, 2, 0),
-    ("K\tpl\x7fin\nG\t()\n", 1, 2, 0),
-    ("K\tpl\u{e9}n\nG\t()\n", 1, 2, 0),
+    ("K\tpl\0in\nG\t()\n", Some((1, 2, 0))),
+    ("K\tplain\r\nG\t()\n", Some((1, 2, 0))),
+    ("K\tpl in\nG\t()\n", Some((1, 2, 0))),
+    ("K\tpl\x7fin\nG\t()\n", Some((1, 2, 0))),
+    ("K\tpl\u{e9}n\nG\t()\n", Some((1, 2, 0))),
     // the kind's word
-    ("K\tpl!~in\nG\t()\n", 1, 5, 2),
-    ("K\tcrew\nG\t()\n", 1, 5, 2),
-    ("K\t\nG\t()\n", 1, 5, 2),
-    ("K\tSight\nZ\tz\n", 1, 5, 2),
+    ("K\tpl!~in\nG\t()\n", Some((1, 5, 2))),
+    ("K\tcrew\nG\t()\n", Some((1, 5, 2))),
+    ("K\t\nG\t()\n", Some((1, 5, 2))),
+    ("K\tSight\nZ\tz\n", Some((1, 5, 2))),
     // the line comes before the number, and on one line the lower number
-    ("K\nX\0\n", 1, 4, 0),
-    ("X\0\n", 1, 2, 0),
-    ("X", 1, 2, 0),
-    ("K\tcrew\tcrew\n", 1, 4, 0),
+    ("K\nX\0\n", Some((1, 4, 0))),
+    ("X\0\n", Some((1, 2, 0))),
+    ("X", Some((1, 2, 0))),
+    ("K\tcrew\tcrew\n", Some((1, 4, 0))),
 ];
 
 // Names, and facts of the plain kind.
 const PLAIN: &[Row] = &[
-    ("P\tabcdefg8\nG\t()\n", 0, 0, 0),
-    ("P\tabcdefgh9\n", 2, 5, 2),
-    ("P\talls\nG\t()\n", 0, 0, 0),
-    ("P\tall\n", 2, 5, 2),
-    ("P\t\n", 2, 5, 2),
-    ("P\tA\n", 2, 5, 2),
-    ("P\ta.b\n", 2, 5, 2),
-    ("P\ta\nP\tb\nP\ta\n", 4, 7, 2),
-    ("M\tm\t()\nM\tm\t()\n", 3, 7, 2),
-    ("P\ta\nF\ta\nM\ta\ta\nG\ta\n", 0, 0, 0),
-    ("P\ta\nF\tb\n", 3, 6, 2),
-    ("P\ta\nF\tall.a\n", 3, 5, 2),
-    ("P\ta\nF\ta\nF\ta\n", 4, 7, 2),
-    ("P\ta\nI\ta\n", 3, 6, 2),
-    ("P\ta\nF\ta\nI\tA\n", 4, 5, 2),
-    ("P\ta\nF\ta\nI\ta\nI\ta\n", 5, 7, 2),
+    ("P\tabcdefg8\nG\t()\n", None),
+    ("P\tabcdefgh9\n", Some((2, 5, 2))),
+    ("P\talls\nG\t()\n", None),
+    ("P\tall\n", Some((2, 5, 2))),
+    ("P\t\n", Some((2, 5, 2))),
+    ("P\tA\n", Some((2, 5, 2))),
+    ("P\ta.b\n", Some((2, 5, 2))),
+    ("P\ta\nP\tb\nP\ta\n", Some((4, 7, 2))),
+    ("M\tm\t()\nM\tm\t()\n", Some((3, 7, 2))),
+    ("P\ta\nF\ta\nM\ta\ta\nG\ta\n", None),
+    ("P\ta\nF\tb\n", Some((3, 6, 2))),
+    ("P\ta\nF\tall.a\n", Some((3, 5, 2))),
+    ("P\ta\nF\ta\nF\ta\n", Some((4, 7, 2))),
+    ("P\ta\nI\ta\n", Some((3, 6, 2))),
+    ("P\ta\nF\ta\nI\tA\n", Some((4, 5, 2))),
+    ("P\ta\nF\ta\nI\ta\nI\ta\n", Some((5, 7, 2))),
 ];
 
 // Facts of the sight kind, below the zones z and y and the matters a and z.
 const SIGHT: &[Row] = &[
-    ("F\tz.y.z.y.z.a\nG\t()\n", 0, 0, 0),
-    ("F\tz.y.z.y.z.y.a\n", 6, 5, 2),
-    ("F\tz.all\n", 6, 5, 2),
-    ("F\tz..a\n", 6, 5, 2),
-    ("F\tx.A\n", 6, 5, 2),
-    ("F\tx.a\n", 6, 6, 2),
-    ("F\tz.b\n", 6, 6, 2),
-    ("F\tz.z.a\n", 6, 8, 2),
-    ("F\tz.all.a\n", 6, 8, 2),
-    ("F\tx.x.a\n", 6, 6, 2),
-    ("F\tall.z.a\nF\tz.y.z.a\nG\t()\n", 0, 0, 0),
-    ("F\tz.a\nF\tz.a\n", 7, 7, 2),
+    ("F\tz.y.z.y.z.a\nG\t()\n", None),
+    ("F\tz.y.z.y.z.y.a\n", Some((6, 5, 2))),
+    ("F\tz.all\n", Some((6, 5, 2))),
+    ("F\tz..a\n", Some((6, 5, 2))),
+    ("F\tx.A\n", Some((6, 5, 2))),
+    ("F\tx.a\n", Some((6, 6, 2))),
+    ("F\tz.b\n", Some((6, 6, 2))),
+    ("F\tz.z.a\n", Some((6, 8, 2))),
+    ("F\tz.all.a\n", Some((6, 8, 2))),
+    ("F\tx.x.a\n", Some((6, 6, 2))),
+    ("F\tall.z.a\nF\tz.y.z.a\nG\t()\n", None),
+    ("F\tz.a\nF\tz.a\n", Some((7, 7, 2))),
     // a fact that is always true is not listed, so it is 6 elsewhere
-    ("G\tz.z.a\n", 6, 6, 2),
+    ("G\tz.z.a\n", Some((6, 6, 2))),
     // the same name as zone, matter and move
-    ("F\tz\nF\tz.z\nM\tz\tz.z\nG\tz\n", 0, 0, 0),
+    ("F\tz\nF\tz.z\nM\tz\tz.z\nG\tz\n", None),
     // one started fact may carry another
-    ("F\tall.a\nF\tz.a\nI\tall.a\nI\tz.a\nG\t()\n", 0, 0, 0),
+    ("F\tall.a\nF\tz.a\nI\tall.a\nI\tz.a\nG\t()\n", None),
 ];
 
 // Goals, where a is a listed fact and b a matter that is none.
 const FORMULAS: &[Row] = &[
-    ("G\t()\n", 0, 0, 0),
-    ("G\t!()\n", 0, 0, 0),
-    ("G\t((a))\n", 0, 0, 0),
-    ("G\t(a&!a&a)\n", 0, 0, 0),
-    ("G\t\n", 5, 5, 2),
-    ("G\t(a&)\n", 5, 5, 2),
-    ("G\t(&a)\n", 5, 5, 2),
-    ("G\t(a&&a)\n", 5, 5, 2),
-    ("G\t!\n", 5, 5, 2),
-    ("G\t(a\n", 5, 5, 2),
-    ("G\ta)\n", 5, 5, 2),
-    ("G\ta&a\n", 5, 5, 2),
-    ("G\t()a\n", 5, 5, 2),
-    ("G\t!!!!!!!!a\n", 0, 0, 0),
-    ("G\t!!!!!!!!!a\n", 5, 5, 2),
-    ("G\t((((((((a))))))))\n", 0, 0, 0),
-    ("G\t(((((((((a)))))))))\n", 5, 5, 2),
-    ("G\t(((((((())))))))\n", 0, 0, 0),
-    ("G\t((((((((()))))))))\n", 5, 5, 2),
-    ("G\tb\n", 5, 6, 2),
-    ("G\t(b&!c)\n", 5, 6, 2),
-    ("G\t(b&A)\n", 5, 5, 2),
+    ("G\t()\n", None),
+    ("G\t!()\n", None),
+    ("G\t((a))\n", None),
+    ("G\t(a&!a&a)\n", None),
+    ("G\t\n", Some((5, 5, 2))),
+    ("G\t(a&)\n", Some((5, 5, 2))),
+    ("G\t(&a)\n", Some((5, 5, 2))),
+    ("G\t(a&&a)\n", Some((5, 5, 2))),
+    ("G\t!\n", Some((5, 5, 2))),
+    ("G\t(a\n", Some((5, 5, 2))),
+    ("G\ta)\n", Some((5, 5, 2))),
+    ("G\ta&a\n", Some((5, 5, 2))),
+    ("G\t()a\n", Some((5, 5, 2))),
+    ("G\t!!!!!!!!a\n", None),
+    ("G\t!!!!!!!!!a\n", Some((5, 5, 2))),
+    ("G\t((((((((a))))))))\n", None),
+    ("G\t(((((((((a)))))))))\n", Some((5, 5, 2))),
+    ("G\t(((((((())))))))\n", None),
+    ("G\t((((((((()))))))))\n", Some((5, 5, 2))),
+    ("G\tb\n", Some((5, 6, 2))),
+    ("G\t(b&!c)\n", Some((5, 6, 2))),
+    ("G\t(b&A)\n", Some((5, 5, 2))),
 ];
 
 // Effects, where a and b are listed facts and c is a matter that is none, and moves below a move m.
 const EFFECTS: &[Row] = &[
-    ("E\t()\t-\t-\nG\t()\n", 0, 0, 0),
-    ("E\t()\tb,a\ta\nG\t()\n", 0, 0, 0),
-    ("E\t()\t\t-\n", 8, 5, 3),
-    ("E\t()\t-,a\t-\n", 8, 5, 3),
-    ("E\t()\ta,\t-\n", 8, 5, 3),
-    ("E\t()\t-\t,a\n", 8, 5, 4),
-    ("E\t()\tc\t-\n", 8, 6, 3),
-    ("E\t()\t-\ta,d\n", 8, 6, 4),
-    ("E\t()\ta,a\t-\n", 8, 7, 3),
-    ("E\t()\ta\tb,a,b\n", 8, 7, 4),
+    ("E\t()\t-\t-\nG\t()\n", None),
+    ("E\t()\tb,a\ta\nG\t()\n", None),
+    ("E\t()\t\t-\n", Some((8, 5, 3))),
+    ("E\t()\t-,a\t-\n", Some((8, 5, 3))),
+    ("E\t()\ta,\t-\n", Some((8, 5, 3))),
+    ("E\t()\t-\t,a\n", Some((8, 5, 4))),
+    ("E\t()\tc\t-\n", Some((8, 6, 3))),
+    ("E\t()\t-\ta,d\n", Some((8, 6, 4))),
+    ("E\t()\ta,a\t-\n", Some((8, 7, 3))),
+    ("E\t()\ta\tb,a,b\n", Some((8, 7, 4))),
     // eight parts are read, nine are not
-    ("E\t()\ta,a,a,a,a,a,a,a\t-\n", 8, 7, 3),
-    ("E\t()\ta,a,a,a,a,a,a,a,a\t-\n", 8, 5, 3),
+    ("E\t()\ta,a,a,a,a,a,a,a\t-\n", Some((8, 7, 3))),
+    ("E\t()\ta,a,a,a,a,a,a,a,a\t-\n", Some((8, 5, 3))),
     // within a list the form comes first, and a repeat last
-    ("E\t()\tc,A\t-\n", 8, 5, 3),
-    ("E\t()\ta,a,c\t-\n", 8, 6, 3),
+    ("E\t()\tc,A\t-\n", Some((8, 5, 3))),
+    ("E\t()\ta,a,c\t-\n", Some((8, 6, 3))),
     // several faults at once: the lowest number in whatever field, and of one number the lowest field
-    ("E\tc\ta\tA\n", 8, 5, 4),
-    ("E\t(\tA\tA\n", 8, 5, 2),
-    ("E\t()\tA\tA\n", 8, 5, 3),
-    ("E\t()\ta,a\tc\n", 8, 6, 4),
-    ("E\tc\tc\tb,b\n", 8, 6, 2),
-    ("E\t()\ta,a\tb,b\n", 8, 7, 3),
-    ("E\t(\tA\n", 8, 4, 0),
-    ("M\tm\tc\n", 8, 6, 3),
-    ("M\tm\t(\n", 8, 5, 3),
-    ("M\tM\t(\n", 8, 5, 2),
-    ("M\tm\t()\n", 8, 7, 2),
+    ("E\tc\ta\tA\n", Some((8, 5, 4))),
+    ("E\t(\tA\tA\n", Some((8, 5, 2))),
+    ("E\t()\tA\tA\n", Some((8, 5, 3))),
+    ("E\t()\ta,a\tc\n", Some((8, 6, 4))),
+    ("E\tc\tc\tb,b\n", Some((8, 6, 2))),
+    ("E\t()\ta,a\tb,b\n", Some((8, 7, 3))),
+    ("E\t(\tA\n", Some((8, 4, 0))),
+    ("M\tm\tc\n", Some((8, 6, 3))),
+    ("M\tm\t(\n", Some((8, 5, 3))),
+    ("M\tM\t(\n", Some((8, 5, 2))),
+    ("M\tm\t()\n", Some((8, 7, 2))),
 ];
 
 #[test]
@@ -259,10 +252,10 @@ fn full_tables(rt: HostRuntime) -> Result<(), Fail> {
         heap,
         &zones,
         &[
-            ("G\t()\n", 0, 0, 0),
-            ("Z\tz12\n", 14, 9, 0),
-            ("Z\tz0\n", 14, 7, 2),
-            ("Z\tZ\n", 14, 5, 2),
+            ("G\t()\n", None),
+            ("Z\tz12\n", Some((14, 9, 0))),
+            ("Z\tz0\n", Some((14, 7, 2))),
+            ("Z\tZ\n", Some((14, 5, 2))),
         ],
     )?;
     let matters = numbered(heap, "K\tplain\n", "P\tp", 64, "")?;
@@ -271,9 +264,9 @@ fn full_tables(rt: HostRuntime) -> Result<(), Fail> {
         heap,
         &matters,
         &[
-            ("G\t()\n", 0, 0, 0),
-            ("P\tp64\n", 66, 9, 0),
-            ("P\tp0\n", 66, 7, 2),
+            ("G\t()\n", None),
+            ("P\tp64\n", Some((66, 9, 0))),
+            ("P\tp0\n", Some((66, 7, 2))),
         ],
     )?;
     let moves = numbered(heap, "K\tplain\n", "M\tm", 64, "\t()")?;
@@ -282,10 +275,10 @@ fn full_tables(rt: HostRuntime) -> Result<(), Fail> {
         heap,
         &moves,
         &[
-            ("G\t()\n", 0, 0, 0),
-            ("M\tm64\t()\n", 66, 9, 0),
-            ("M\tm0\t()\n", 66, 7, 2),
-            ("M\tm64\tx\n", 66, 6, 3),
+            ("G\t()\n", None),
+            ("M\tm64\t()\n", Some((66, 9, 0))),
+            ("M\tm0\t()\n", Some((66, 7, 2))),
+            ("M\tm64\tx\n", Some((66, 6, 3))),
         ],
     )?;
     let mut facts = numbered(heap, "K\tsight\nZ\tz\n", "P\tp", 64, "")?;
@@ -296,10 +289,10 @@ fn full_tables(rt: HostRuntime) -> Result<(), Fail> {
         heap,
         &facts,
         &[
-            ("G\t()\n", 0, 0, 0),
-            ("F\tall.p0\n", 195, 9, 0),
-            ("F\tz.z.p0\n", 195, 8, 2),
-            ("F\tz.p0\n", 195, 7, 2),
+            ("G\t()\n", None),
+            ("F\tall.p0\n", Some((195, 9, 0))),
+            ("F\tz.z.p0\n", Some((195, 8, 2))),
+            ("F\tz.p0\n", Some((195, 7, 2))),
         ],
     )
 }
@@ -321,9 +314,9 @@ fn full_moves(rt: HostRuntime) -> Result<(), Fail> {
         heap,
         &own,
         &[
-            ("G\t()\n", 0, 0, 0),
-            ("E\t()\t-\t-\n", 19, 9, 0),
-            ("E\t(\t-\t-\n", 19, 5, 2),
+            ("G\t()\n", None),
+            ("E\t()\t-\t-\n", Some((19, 9, 0))),
+            ("E\t(\t-\t-\n", Some((19, 5, 2))),
         ],
     )?;
     let mut all = String::from_str(heap, "K\tplain\n")?;
@@ -333,8 +326,8 @@ fn full_moves(rt: HostRuntime) -> Result<(), Fail> {
         heap,
         &all,
         &[
-            ("M\tm16\t()\nG\t()\n", 0, 0, 0),
-            ("M\tm16\t()\nE\t()\t-\t-\n", 275, 9, 0),
+            ("M\tm16\t()\nG\t()\n", None),
+            ("M\tm16\t()\nE\t()\t-\t-\n", Some((275, 9, 0))),
         ],
     )?;
     // 63 needs of size 16 leave room for one more
@@ -344,41 +337,26 @@ fn full_moves(rt: HostRuntime) -> Result<(), Fail> {
         heap,
         &sizes,
         &[
-            (
-                "G\t(()&()&()&()&()&()&()&()&()&()&()&()&()&()&())\n",
-                0,
-                0,
-                0,
-            ),
+            ("G\t(()&()&()&()&()&()&()&()&()&()&()&()&()&()&())\n", None),
             (
                 "G\t!(()&()&()&()&()&()&()&()&()&()&()&()&()&()&())\n",
-                65,
-                9,
-                0,
+                Some((65, 9, 0)),
             ),
             (
                 "G\t!(()&()&()&()&()&()&()&()&()&()&()&()&()&()&a)\n",
-                65,
-                6,
-                2,
+                Some((65, 6, 2)),
             ),
             (
                 "M\tm\t!(()&()&()&()&()&()&()&()&()&()&()&()&()&()&())\n",
-                65,
-                9,
-                0,
+                Some((65, 9, 0)),
             ),
             (
                 "E\t!(()&()&()&()&()&()&()&()&()&()&()&()&()&()&())\t-\t-\n",
-                65,
-                9,
-                0,
+                Some((65, 9, 0)),
             ),
             (
                 "M\tm\t(()&()&()&()&()&()&()&()&()&()&()&()&()&()&())\nG\t()\n",
-                66,
-                9,
-                0,
+                Some((66, 9, 0)),
             ),
         ],
     )?;
@@ -391,21 +369,15 @@ fn full_moves(rt: HostRuntime) -> Result<(), Fail> {
         &[
             (
                 "M\tm\t()\nE\t()\tp0,p1,p2,p3,p4,p5,p6,p7\tp8\nG\t()\n",
-                0,
-                0,
-                0,
+                None,
             ),
             (
                 "M\tm\t()\nE\t()\tp0,p1,p2,p3,p4,p5,p6,p7,p8\t-\nG\t()\n",
-                21,
-                5,
-                3,
+                Some((21, 5, 3)),
             ),
             (
                 "M\tm\t()\nE\t()\t-\tp0,p1,p2,p3,p4,p5,p6,p7,p8\nG\t()\n",
-                21,
-                5,
-                4,
+                Some((21, 5, 4)),
             ),
         ],
     )
@@ -432,15 +404,30 @@ fn full_lines(rt: HostRuntime) -> Result<(), Fail> {
     // a goal of 117 facts more makes a line of 240 bytes, and one of 241
     let more = "&a".repeat(heap, 117)?;
     let goal = format!(in heap; "K\tplain\nP\ta\nF\ta\nG\t(!a{more}")?;
-    check_rows(&rt, heap, &goal, &[(")\n", 0, 0, 0), ("&)\n", 4, 2, 0)])?;
+    check_rows(
+        &rt,
+        heap,
+        &goal,
+        &[(")\n", None), ("&)\n", Some((4, 2, 0)))],
+    )?;
     let mut large = large_sheet(heap)?;
     large.push_str("G\t!!(()")?;
     large.push_str(&"&()".repeat(heap, 42)?)?;
     assert_eq!(rt; large.len(), 32766);
-    check_rows(&rt, heap, &large, &[(")\n", 0, 0, 0), (")\n\n", 0, 1, 0)])?;
+    check_rows(
+        &rt,
+        heap,
+        &large,
+        &[(")\n", None), (")\n\n", Some((0, 1, 0)))],
+    )?;
     // the size comes before every line
     let blank = "\n".repeat(heap, 32768)?;
-    check_rows(&rt, heap, &blank, &[("", 1, 3, 0), ("\n", 0, 1, 0)])
+    check_rows(
+        &rt,
+        heap,
+        &blank,
+        &[("", Some((1, 3, 0))), ("\n", Some((0, 1, 0)))],
+    )
 }
 
 // A sheet that is refused leaves a depot empty, whatever was in it.

@@ -1,24 +1,32 @@
-// What the tests say of a sheet.
+// What the tests say of a sheet that is refused.
 use sheets::faults::Fault;
 
-// The line, the number and the field of a refusal, 0 where unused; all three are 0 where there is none.
-#[derive(Clone, Copy, Debug, PartialEq, Eq, Default)]
+// The line, the number and the field of a refusal, as a report prints them: the field is 0 where unused, and the line
+// where the refusal speaks of none.
+#[derive(Clone, Copy, Debug, PartialEq, Eq)]
 pub struct Verdict {
     pub line: usize,
     pub number: u8,
     pub field: usize,
 }
 
-impl Verdict {
-    // The verdict of a reader that tells this.
-    pub(crate) fn of(told: Option<Fault>) -> Verdict {
-        let Some(fault) = told else {
-            return Verdict::default();
-        };
+impl From<Fault> for Verdict {
+    fn from(fault: Fault) -> Verdict {
         let [field, ..] = fault.refusal.details();
         Verdict {
             line: fault.line,
             number: fault.refusal.number(),
+            field,
+        }
+    }
+}
+
+// A row of a test: the line, the number and the field.
+impl From<(usize, u8, usize)> for Verdict {
+    fn from((line, number, field): (usize, u8, usize)) -> Verdict {
+        Verdict {
+            line,
+            number,
             field,
         }
     }

@@ -1,14 +1,15 @@
 -- The watchers that the parts of a text name, gathered in a short list. Assumes nothing.
-use Rattle.std.proofs.Common.{◌≡◌, ℕ, ◌+◌, ◌<◌, ◌≤◌, min, true, false, List, [], ◌∷◌, ◌++◌, map, length, drop, set, replicate, Option, Some, None, Ok, Err, Result, sym, refl, ap, subst, ◌∙◌, append_assoc, arith, length-append, length-drop, length-take}
+use Rattle.std.proofs.Common.{◌≡◌, ℕ, ◌+◌, ◌<◌, ◌≤◌, min, List, [], ◌∷◌, ◌++◌, map, length, drop, set, replicate, Option, Some, None, Ok, Err, Result, ok_or, sym, refl, ap, subst, ◌∙◌, append_assoc, arith, length-append, length-drop, length-take}
 use Rattle.std.specs.Option.{option_map}
 use Rattle.std.proofs.lemmas.List.{take-append-drop, drop_more, set_at, length_push}
 use Rattle.std.proofs.lemmas.Iterator.{YieldsList}
 use Rattle.std.proofs.lemmas.Iterator.Consumers.{YieldsList-so_far, YieldsList-turn}
 use Rattle.std.specs.Iterator.{Yields}
-use Rattle.std.specs.Result.{MatchResult, is_ok}
-use Rattle.std.proofs.lemmas.Bool.{false≢true}
+use Rattle.std.specs.Result.{MatchResult, IsOk}
 use denote.Ref.{Bor}
 use native.Mathlib.Bridge.{le_prop}
+use Rattle.facts.specs.declared.names.NoFact.{NoFact}
+use Rattle.facts.specs.declared.names.NoFact.TheVariants.{NotListed}
 use Rattle.facts.specs.declared.short_list.ShortList.{ShortList}
 use Rattle.facts.specs.declared.sighted.Watcher.{Watcher}
 use Rattle.facts.specs.declared.sighted.Watcher.TheVariants.{All}
@@ -37,6 +38,18 @@ named-append zones (p ∷ seen) rest ws named = by_parts (watcher_of zones p) (w
     by_parts (Some w) (Some us) later is e =
         let whole : w ∷ us ≡ ws = cc in
         ap (option_map (λ l. w ∷ l)) (later us is) ∙ by_rest w us (watchers_named zones rest) ∙ ap (λ ws. option_map (λ l. ws ++ l) (watchers_named zones rest)) whole
+
+-- what is listed, or not, by the result that says so
+module _ {X : Type 0} (o : Option X) where
+  there : (x : X) → Ok x ≡ ok_or o NotListed → o ≡ Some x
+  there x is = grind arith
+
+  not_there : (why : NoFact) → Err why ≡ ok_or o NotListed → (o ≡ None) × (why ≡ NotListed)
+  not_there why is = by_option o is
+    where
+      by_option : (p : Option X) → Err why ≡ ok_or p NotListed → (p ≡ None) × (why ≡ NotListed)
+      by_option None is = (refl, cc)
+      by_option (Some x) is = cc
 
 -- one more entry in its place
 put-push : (row ws : List Watcher) (w : Watcher) → length ws < length row → set (put_into row ws) (length ws) w ≡ put_into row (ws ++ w ∷ [])
@@ -67,32 +80,29 @@ module _ (zones : List (List ℕ)) where
         let rest = length-drop (length (entries_of s)) (replicate 5 All) in
         omega arith
 
-    pub gathered_more : (part : List ℕ) (w : Watcher) (t : ShortList Watcher 5) → Some w ≡ watcher_of zones part → length (entries_of s) < 5 → entries_of t ≡ entries_of s ++ w ∷ [] → t.places ≡ set s.places s.count w → Gathered zones (seen ++ part ∷ []) t
+    pub gathered_more : (part : List ℕ) (w : Watcher) (t : ShortList Watcher 5) → Ok w ≡ ok_or (watcher_of zones part) NotListed → length (entries_of s) < 5 → entries_of t ≡ entries_of s ++ w ∷ [] → t.places ≡ set s.places s.count w → Gathered zones (seen ++ part ∷ []) t
     gathered_more part w t is room more put = record {
-      named = named-append zones seen (part ∷ []) (entries_of s) sofar.named ∙ ap (λ o. option_map (λ l. entries_of s ++ l) (followed o (Some []))) (sym is) ∙ ap Some (sym more);
+      named = named-append zones seen (part ∷ []) (entries_of s) sofar.named ∙ ap (λ o. option_map (λ l. entries_of s ++ l) (followed o (Some []))) (there _ _ is) ∙ ap Some (sym more);
       many = ap length more ∙ length_push (entries_of s) w ∙ ap (λ n. n + 1) sofar.many ∙ sym (length_push seen part);
       places = put ∙ ap (λ l. set l s.count w) sofar.places ∙ ap (λ n. set (put_into (replicate 5 All) (entries_of s)) n w) (sym counted) ∙ put-push (replicate 5 All) (entries_of s) w room ∙ ap (put_into (replicate 5 All)) (sym more);
     }
 
-    pub gathering_fails : (part : List ℕ) (rest : List (List ℕ)) → None ≡ watcher_of zones part → watchers_named zones (seen ++ part ∷ rest) ≡ None
-    gathering_fails part rest unlisted = named-append zones seen (part ∷ rest) (entries_of s) sofar.named ∙ ap (λ o. option_map (λ l. entries_of s ++ l) (followed o (watchers_named zones rest))) (sym unlisted)
+    pub gathering_fails : (why : NoFact) (part : List ℕ) (rest : List (List ℕ)) → Err why ≡ ok_or (watcher_of zones part) NotListed → ◌≡◌ {A = Result (ShortList Watcher 5) NoFact} (Err why) (ok_or (option_map (short_list All) (watchers_named zones (seen ++ part ∷ rest))) NotListed)
+    gathering_fails why part rest unlisted =
+        let none = not_there _ _ unlisted in
+        ap Err none.1 ∙ sym (ap (λ o. ok_or (option_map (short_list {N = 5} All) o) NotListed) (named-append zones seen (part ∷ rest) (entries_of s) sofar.named ∙ ap (λ o. option_map (λ l. entries_of s ++ l) (followed o (watchers_named zones rest))) none.0))
 
-    pub gathered_all : Some s ≡ option_map (short_list All) (watchers_named zones seen)
+    pub gathered_all : Ok s ≡ ok_or (option_map (short_list All) (watchers_named zones seen)) NotListed
     unfolding kept
     gathered_all =
         let few = s.few in
         let five : s.count ≡ min (length (entries_of s)) 5 = omega (arith, counted) in
-        ap (λ row. Some (kept row s.count few)) sofar.places ∙ ap Some (kept_same (put_into (replicate 5 All) (entries_of s)) s.count (min (length (entries_of s)) 5) five few (short_list {N = 5} All (entries_of s)).few) ∙ sym (ap (option_map (short_list All)) sofar.named)
+        ap (λ row. Ok (kept row s.count few)) sofar.places ∙ ap Ok (kept_same (put_into (replicate 5 All) (entries_of s)) s.count (min (length (entries_of s)) 5) five few (short_list {N = 5} All (entries_of s)).few) ∙ sym (ap (λ o. ok_or (option_map (short_list All) o) NotListed) sofar.named)
 
--- what is known of a push by whether it was taken
-module _ {E : Type 0} (P : Type 0) (Q : E → Type 0) where
-  pub taken_ok : (r : Result (Unit {0}) E) → MatchResult r (λ _. P) Q → true ≡ is_ok r → P
-  taken_ok (Ok u) h taken = h
-  taken_ok (Err e) h taken = absurd (false≢true (sym taken))
-
-  pub taken_err : (r : Result (Unit {0}) E) → MatchResult r (λ _. P) Q → false ≡ is_ok r → (e : E) × Q e
-  taken_err (Ok u) h refused = absurd (false≢true refused)
-  taken_err (Err e) h refused = (e, h)
+-- a push that nothing refuses is taken
+pub taken : {E : Type 0} (P : Type 0) (Q : E → Type 0) (r : Result (Unit {0}) E) → MatchResult r (λ _. P) Q → ((e : E) → Q e → ⊥) → IsOk r
+taken P Q (Ok u) h room = refl
+taken P Q (Err e) h room = absurd (room e h)
 
 -- a turn of a walk over parts: those that were seen, the part in hand, and those after it
 module _ {S : Type 0} {steps : S → Option (Bor (List ℕ)) → S → Type 0} {s : S} {all : List (List ℕ)} (road : YieldsList steps (λ p. p.now) s all) (seen : List (Bor (List ℕ))) (t u : S) (led : Yields steps s seen t) (r : Option (Bor (List ℕ))) (part : Bor (List ℕ)) (is : r ≡ Some part) (step : steps t r u) where

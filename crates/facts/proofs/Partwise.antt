@@ -38,9 +38,10 @@ halves mark xs rest false (Some x) None d m is one two = absurd (false≢true tw
 halves mark xs rest true (Some x) (Some y) d m is one two = absurd (false≢true (sym two.0))
 halves mark xs rest false (Some x) (Some y) d m is one two = split_at_last (λ b. eqb b mark) xs rest x.now false one.0 one.1 ∙ ap (λ l. pieces mark l ++ x.now ∷ []) two.1 ∙ ap (λ (v : Bor (List ℕ)). pieces mark y.now ++ v.now ∷ []) (sym is)
 
-pub weaker : {A P P' : Type 0} {Q Q' : A → Type 0} (o : Option A) → MatchOption o P Q → (P → P') → ((x : A) → Q x → Q' x) → MatchOption o P' Q'
-weaker None h none some = none h
-weaker (Some x) h none some = some x h
+-- what is asked of the parts before the last, if there are any
+pub watched : {Q : Bor (List ℕ) → Type 0} (before : Option (Bor (List ℕ))) (r : Bool) → MatchOption before (r ≡ true) Q → ((x : Bor (List ℕ)) → Q x → r ≡ list_all is_watcher (pieces 46 x.now)) → r ≡ list_all is_watcher (following 46 (option_map (λ x. x.now) before))
+watched None r is each = is
+watched (Some x) r is each = each x is
 
 -- what is asked of all parts but the last, and of the last
 module _ (last : List ℕ) where

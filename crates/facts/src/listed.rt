@@ -6,6 +6,7 @@ ghost use Rattle.facts.specs.Listed.{marked};
 use crate::kinds::Kind;
 use crate::marks::remark;
 
+// The place, counted from 0, of the first listed fact that is the same: with its bound, so that one can be added to it.
 fn place_of_same<K: Kind>(facts: &[K::Fact], fact: &K::Fact) -> Option<usize>
     ensures place { result ≡ position (K.alike fact.now) facts.now }
     ensures within { IfSome result (λ place. place < length facts.now) }
@@ -18,7 +19,7 @@ fn place_of_same<K: Kind>(facts: &[K::Fact], fact: &K::Fact) -> Option<usize>
 pub fn number_of_same<K: Kind>(facts: &[K::Fact], fact: &K::Fact) -> Option<usize>
     ensures { result ≡ first_from (K.alike fact.now) 1 facts.now }
 {
-    Some(place_of_same::<K>(facts, fact)? + 1)
+    place_of_same::<K>(facts, fact).map(|place| place + 1)
 }
 
 // Marks which listed facts a fact carries, as far as the row reaches; the rest of the row stays.

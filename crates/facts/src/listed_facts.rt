@@ -1,6 +1,6 @@
 // The facts that a sheet lists, and which of them a text is.
 ghost use Rattle.std.specs.Prelude.{◌≡◌};
-ghost use Rattle.facts.specs.Numbering.{number_under};
+ghost use Rattle.facts.specs.Numbering.{has_form, number_under};
 
 use crate::kinds::Kind;
 use crate::listed::number_of_same;
@@ -20,5 +20,12 @@ impl<'a, K: Kind> ListedFacts<'a, K> {
     {
         let fact = K::read(self.names, text)?;
         number_of_same::<K>(self.facts, &fact).ok_or(NoFact::NotListed)
+    }
+
+    // Whether a text has the form of a fact, be it listed or not.
+    pub fn has_form(&self, text: &[u8]) -> bool
+        ensures { result ≡ has_form (number_under K.Kind self.now text.now) }
+    {
+        !matches!(self.number_of(text), Err(NoFact::NotItsForm))
     }
 }

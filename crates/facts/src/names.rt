@@ -8,8 +8,8 @@ pub struct Names {
     pub matters: Vec<Name>,
 }
 
-// Why a text is no fact: it has not the form of one, or it has and names a zone or matter that is
-// not listed; of a text that must be a listed fact, also that it is none of those.
+// Why a text is no fact: it has not the form of one, or it has and names a zone or matter that is not listed. Where a text must
+// be one of the listed facts, it is told as not listed also if it is a fact that is none of them.
 #[derive(Clone, Copy, Debug, PartialEq, Eq)]
 pub enum NoFact {
     NotItsForm,

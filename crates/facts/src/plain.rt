@@ -18,7 +18,7 @@ pub struct PlainFact {
 }
 
 // The kind whose facts are matters.
-pub struct Plain {}
+pub struct Plain;
 
 impl Kind for Plain {
     type Fact = PlainFact;

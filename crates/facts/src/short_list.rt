@@ -51,6 +51,7 @@ impl<T: Copy, const N: usize> ShortList<T, N> {
         ensures room { MatchResult result (λ _. (length (entries_of self.old) < N) × (entries_of self.new ≡ entries_of self.old ++ entry ∷ [])) (λ back. (N ≤ length (entries_of self.old)) × (back ≡ entry) × (self.new ≡ self.old)) }
         ensures places { self.new.places ≡ set self.old.places self.old.count entry }
     {
+        // No `get_mut`, since of a slice that was written through it a proof knows no element.
         if self.count == N {
             return Err(entry);
         }

@@ -22,7 +22,7 @@ impl SightFact {
 }
 
 // The kind whose facts say who sees a matter.
-pub struct Sight {}
+pub struct Sight;
 
 impl Kind for Sight {
     type Fact = SightFact;
@@ -51,7 +51,8 @@ impl Kind for Sight {
         sight_text::read(names, text)
     }
 
-    // Not by a derived `==`, which would compare the places past the count too.
+    // Not by `==` of facts: a derived one would compare the places past the count too, and one written for the list is longer
+    // than this line.
     fn same(a: &SightFact, b: &SightFact) -> bool {
         a.matter == b.matter && a.seen_by() == b.seen_by()
     }

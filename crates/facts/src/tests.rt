@@ -3,23 +3,28 @@ use crate::kinds::Kind;
 use crate::listed;
 use crate::listed_facts::ListedFacts;
 use crate::names::{Names, NoFact};
+use crate::plain::Plain;
 use crate::sight::Sight;
 use sheets::listed::Name;
 use std::alloc::{AllocError, Global};
 use std::test::Fail;
 
-// Zones scan and div, matters clear and scan.
-fn some_names(heap: Global) -> Result<Names, AllocError> {
-    let mut zones = Vec::new(heap);
-    zones.push(Name::new(heap, b"scan")?)?;
-    zones.push(Name::new(heap, b"div")?)?;
-    let mut matters = Vec::new(heap);
-    matters.push(Name::new(heap, b"clear")?)?;
-    matters.push(Name::new(heap, b"scan")?)?;
-    Ok(Names { zones, matters })
+fn listed_names(heap: Global, texts: &[&[u8]]) -> Result<Vec<Name>, AllocError> {
+    texts
+        .iter()
+        .map(|text| Name::new(heap, *text))
+        .try_collect(heap)
 }
 
-// What a reading says: a fact, or why there is none.
+// Zones scan and div, matters clear and scan.
+fn some_names(heap: Global) -> Result<Names, AllocError> {
+    Ok(Names {
+        zones: listed_names(heap, &[b"scan", b"div"])?,
+        matters: listed_names(heap, &[b"clear", b"scan"])?,
+    })
+}
+
+// What `err` says of a reading, of either kind: a fact, or why there is none.
 const FACT: Option<NoFact> = None;
 
 const FORM: Option<NoFact> = Some(NoFact::NotItsForm);
@@ -52,11 +57,8 @@ fn texts_are_read(rt: HostRuntime) -> Result<(), Fail> {
         ("crew.Clear", FORM, FORM),
     ];
     for (text, sight, plain) in rows {
-        assert_eq!(rt; <Sight as Kind>::read(&names, text.as_bytes()).err(), sight);
-        assert_eq!(rt;
-            <crate::plain::Plain as Kind>::read(&names, text.as_bytes()).err(),
-            plain
-        );
+        assert_eq!(rt; Sight::read(&names, text.as_bytes()).err(), sight);
+        assert_eq!(rt; Plain::read(&names, text.as_bytes()).err(), plain);
     }
     Ok(())
 }
@@ -64,22 +66,19 @@ fn texts_are_read(rt: HostRuntime) -> Result<(), Fail> {
 #[test]
 fn facts_are_numbered_and_marked(rt: HostRuntime) -> Result<(), Fail> {
     let names = some_names(rt.alloc())?;
-    let Ok(all_clear) = Sight::read(&names, b"all.clear") else {
-        return Err(Fail::new("all.clear"));
-    };
-    let Ok(scan_clear) = Sight::read(&names, b"scan.clear") else {
-        return Err(Fail::new("scan.clear"));
-    };
-    let Ok(clear) = Sight::read(&names, b"clear") else {
-        return Err(Fail::new("clear"));
-    };
+    let all_clear = Sight::read(&names, b"all.clear")?;
+    let scan_clear = Sight::read(&names, b"scan.clear")?;
+    let clear = Sight::read(&names, b"clear")?;
     let facts = [clear, scan_clear, all_clear];
     let listed_facts = ListedFacts::<Sight> {
         names: &names,
         facts: &facts,
     };
-    assert!(rt; listed_facts.number_of(b"scan.clear") == Ok(2));
-    assert!(rt; listed_facts.number_of(b"div.clear") == Err(NoFact::NotListed));
+    assert_eq!(rt; listed_facts.number_of(b"scan.clear"), Ok(2));
+    assert_eq!(rt;
+        listed_facts.number_of(b"div.clear"),
+        Err(NoFact::NotListed)
+    );
     let mut row = [true, true, false, true];
     listed::mark_carried::<Sight>(&facts, &all_clear, &mut row);
     assert_eq!(rt; row, [false, true, true, true]);

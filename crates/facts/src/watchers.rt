@@ -15,8 +15,8 @@ fn ends_above(watchers: &[Watcher], last: &[Watcher]) -> bool
 fn carries_jointly(a: &[Watcher], b: &[Watcher]) -> bool
     ensures { result ≡ carries_jointly a.now b.now }
 {
-    match a.split_first() {
-        Some((Watcher::All, rest)) => ends_above(b, rest),
+    match a {
+        [Watcher::All, rest @ ..] => ends_above(b, rest),
         _ => false,
     }
 }

@@ -27,9 +27,6 @@ module _ (d : ℕ) (text : List ℕ) where
     pub found : (qs : Formulas (List ℕ)) (rest : List ℕ) → GoesOn d left qs rest → GoesOn d text (before ts qs) rest
     pub missed : ((qs : Formulas (List ℕ)) (rest : List ℕ) → GoesOn d left qs rest → ⊥) → (qs : Formulas (List ℕ)) (rest : List ℕ) → GoesOn d text qs rest → ⊥
 
-  pub none_read : Onward [] text
-  none_read = record { found = λ qs rest g. g; missed = λ h. h }
-
 module _ {d : ℕ} {text : List ℕ} {ts : List (Tree (Bor (List ℕ)))} {left : List ℕ} (so_far : Onward d text ts left) where
   pub not_read : (e : Unread) → Formed d left (Err e) → FormedOn d text (Err e)
   not_read NotItsForm h = so_far.missed (no_first d left h)

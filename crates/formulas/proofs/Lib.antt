@@ -1,6 +1,9 @@
 pub mod Exits
 pub mod InBrackets
+pub mod Mapped
+pub mod Marked
 pub mod Numbering
+pub mod Rows
 pub mod Steps
 pub mod Trees
 pub mod Unique

@@ -1,5 +1,5 @@
 -- The steps of the readers: what a text begins with, from what its parts do. Assumes nothing.
-use Rattle.std.proofs.Common.{◌≡◌, ◌≢◌, ℕ, ◌+◌, ◌-◌, ◌<◌, Bool, true, false, not, cond, List, [], ◌∷◌, ◌++◌, length, drop, sym, refl, ap, subst, ⊎_elim, ◌∙◌, arith, length-append}
+use Rattle.std.proofs.Common.{◌≡◌, ◌≢◌, ℕ, ◌+◌, ◌-◌, ◌<◌, Bool, true, false, not, cond, List, [], ◌∷◌, ◌++◌, length, drop, sym, refl, ap, subst, ⊎_elim, ◌∙◌, arith}
 use Rattle.std.specs.List.{AllByRecursion, before_first, position_or_len}
 use Rattle.std.proofs.lemmas.List.{take-append-drop, drop_more, at_drop_all}
 use Rattle.std.proofs.lemmas.Bool.{cases_lt}
@@ -136,7 +136,3 @@ module _ (d : ℕ) (text : List ℕ) (p : Formula (List ℕ)) (after : List ℕ)
   broken_off no-and no-close none rest g = let bad = heads 38 41 _ _ g.text_is in omega arith
   broken_off no-and no-close (more q none) rest g = no-close rest (same_after q none rest g)
   broken_off no-and no-close (more q (more s ss)) rest g = no-and ((spelled s ++ spelled_on ss) ++ 41 ∷ rest) (same_after q (more s ss) rest g)
-
-  -- what is left after the first formula is no longer than the text
-  pub left-fits : (next : List ℕ) → after ≡ 38 ∷ next → length next < length text
-  left-fits next is = omega (arith, ap length first.text_is, length-append (spelled p) after, ap length is)

@@ -1,9 +1,10 @@
 -- A formula over texts as one over the numbers of listed facts. Assumes nothing.
 use Rattle.std.specs.Prelude.{◌≡◌, ℕ, Bool, true, false, ◌&&◌, List, Ok, Err, Result}
+use Rattle.facts.specs.Numbering.{has_form}
 use Rattle.facts.specs.declared.names.NoFact.{NoFact}
 use Rattle.facts.specs.declared.names.NoFact.TheVariants as no_fact
 use Rattle.formulas.specs.declared.resolve.Unresolved.{Unresolved}
-use Rattle.formulas.specs.declared.resolve.Unresolved.TheVariants.{NotItsForm, NotListed, NoMemory}
+use Rattle.formulas.specs.declared.resolve.Unresolved.TheVariants as unresolved
 use Rattle.formulas.specs.declared.tree.Formula.{Formula as Tree}
 use Rattle.formulas.specs.Formulas.{Formula, Formulas, fact, neg, all, none, more}
 use Rattle.formulas.specs.Shapes.{numbers}
@@ -32,17 +33,6 @@ abbrev mutual
   renamed_in name none = none
   renamed_in name (more p ps) = more (renamed name p) (renamed_in name ps)
 
--- A text has the form of a fact, be it listed or not.
-abbrev pub has_form : Result ℕ NoFact → Bool
-has_form (Ok n) = true
-has_form (Err no_fact.NotItsForm) = false
-has_form (Err no_fact.NotListed) = true
-
--- Why a formula is none over the listed facts, where one of its facts is none.
-abbrev pub why_not : NoFact → Unresolved
-why_not no_fact.NotItsForm = NotItsForm
-why_not no_fact.NotListed = NotListed
-
 -- A text is a listed fact.
 abbrev pub is_listed : Result ℕ NoFact → Bool
 is_listed (Ok n) = true
@@ -60,14 +50,14 @@ Numbered number p q = (each_passes (λ text. is_listed (number text)) p ≡ true
 -- The numbers of a formula's facts, or a fault that some fact has.
 abbrev pub Numbers : (List ℕ → Result ℕ NoFact) → Formula (List ℕ) → Result (Tree ℕ) Unresolved → Type 0
 Numbers number p (Ok t) = Numbered number p (numbers t)
-Numbers number p (Err NotItsForm) = each_passes (λ text. has_form (number text)) p ≡ false
-Numbers number p (Err NotListed) = each_passes (λ text. is_listed (number text)) p ≡ false
-Numbers number p (Err NoMemory) = Unit {0}
+Numbers number p (Err (unresolved.NoFact no_fact.NotItsForm)) = each_passes (λ text. has_form (number text)) p ≡ false
+Numbers number p (Err (unresolved.NoFact no_fact.NotListed)) = each_passes (λ text. is_listed (number text)) p ≡ false
+Numbers number p (Err unresolved.NoMemory) = Unit {0}
 
 -- What a formula over texts comes to. A fact that has not its form, wherever it stands, comes before one that is not
 -- listed. Memory can be wanting only once every fact has its form.
 abbrev pub Resolves : (List ℕ → Result ℕ NoFact) → Formula (List ℕ) → Result (Tree ℕ) Unresolved → Type 0
 Resolves number p (Ok t) = Numbered number p (numbers t)
-Resolves number p (Err NotItsForm) = each_passes (λ text. has_form (number text)) p ≡ false
-Resolves number p (Err NotListed) = (each_passes (λ text. has_form (number text)) p ≡ true) × (each_passes (λ text. is_listed (number text)) p ≡ false)
-Resolves number p (Err NoMemory) = each_passes (λ text. has_form (number text)) p ≡ true
+Resolves number p (Err (unresolved.NoFact no_fact.NotItsForm)) = each_passes (λ text. has_form (number text)) p ≡ false
+Resolves number p (Err (unresolved.NoFact no_fact.NotListed)) = (each_passes (λ text. has_form (number text)) p ≡ true) × (each_passes (λ text. is_listed (number text)) p ≡ false)
+Resolves number p (Err unresolved.NoMemory) = each_passes (λ text. has_form (number text)) p ≡ true

@@ -44,6 +44,7 @@ abbrev mutual
   spelled_on none = []
   spelled_on (more p ps) = 38 ∷ (spelled p ++ spelled_on ps)
 
+-- The depth and the size apart: one measure for both, told what a fact counts and how formulas are joined, is longer and says less.
 abbrev mutual
   -- How deep a formula is: a fact has depth 0, and each `!` or pair of brackets adds 1 to the deepest formula inside.
   pub depth_of : {F : Type 0} → Formula F → ℕ

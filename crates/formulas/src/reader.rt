@@ -52,6 +52,7 @@ fn brackets<'a>(
 {
     let mut all = Vec::new(heap);
     let mut left = text;
+    // A loop, since where the next formula begins is known only when one is read.
     loop {
         let (one, after) = formula(heap, left, depth)?;
         all.push(one)?;

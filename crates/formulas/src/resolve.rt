@@ -1,9 +1,8 @@
 // A formula over texts as one over the numbers of listed facts.
 ghost use Rattle.std.specs.Prelude.{◌≡◌};
-ghost use Rattle.facts.specs.Numbering.{number_under};
-ghost use Rattle.facts.specs.declared.names.NoFact.TheVariants as no_fact;
-ghost use Rattle.formulas.specs.declared.resolve.Unresolved.TheVariants.{NoMemory};
-ghost use Rattle.formulas.specs.Resolving.{each_passes, has_form, Numbers, Resolves, why_not};
+ghost use Rattle.formulas.specs.declared.resolve.Unresolved.TheVariants.{NoFact, NoMemory};
+ghost use Rattle.formulas.specs.Resolving.{each_passes, Numbers, Resolves};
+ghost use Rattle.facts.specs.Numbering.{has_form, number_under};
 ghost use Rattle.formulas.specs.Shapes.{texted};
 
 use crate::tree::Formula;
@@ -12,22 +11,18 @@ use facts::listed_facts::ListedFacts;
 use facts::names::NoFact;
 use std::alloc::{AllocError, AllocFailed, Global};
 
-// Why a formula is none over the listed facts, or that an allocation failed.
+// Why a formula is none over the listed facts: what is wrong with a fact of it, or that an allocation failed.
 #[derive(Clone, Copy, Debug, PartialEq, Eq)]
 pub enum Unresolved {
-    NotItsForm,
-    NotListed,
+    NoFact(NoFact),
     NoMemory,
 }
 
 impl From<NoFact> for Unresolved {
-    ghost from_gives = { λ why r. r ≡ why_not why };
+    ghost from_gives = { λ why r. r ≡ NoFact why };
 
     fn from(why: NoFact) -> Unresolved {
-        match why {
-            NoFact::NotItsForm => Unresolved::NotItsForm,
-            NoFact::NotListed => Unresolved::NotListed,
-        }
+        Unresolved::NoFact(why)
     }
 }
 
@@ -52,17 +47,13 @@ fn all_formed<K: Kind>(listed: &ListedFacts<K>, formula: &Formula<&[u8]>) -> boo
     ensures { result ≡ each_passes (λ text. has_form (number_under K.Kind listed.now text)) (texted formula.now) }
 {
     match formula {
-        Formula::Fact(text) => !matches!(listed.number_of(text), Err(NoFact::NotItsForm)),
+        Formula::Fact(text) => listed.has_form(text),
         Formula::Not(inner) => all_formed(listed, inner),
-        Formula::All(inner) => {
-            // A loop, as in `truth`.
-            for one in inner {
-                if !all_formed(listed, one) {
-                    return false;
-                }
-            }
-            true
-        }
+        Formula::All(inner) => inner.iter().all(
+            |one|
+                ensures { result ≡ each_passes (λ text. has_form (number_under K.Kind listed.entry.now text)) (texted one.now) }
+            { all_formed(listed, one) },
+        ),
     }
 }
 
@@ -81,17 +72,21 @@ fn numbers<K: Kind>(
             Ok(Formula::Not(Box::new(heap, numbered)?))
         }
         Formula::All(inner) => {
-            // A loop, as in `truth`.
-            let mut all = Vec::new(heap);
-            for one in inner {
-                all.push(numbers(heap, listed, one)?)?;
-            }
+            let all = inner
+                .iter()
+                .map(
+                    |one|
+                        ensures { Numbers (number_under K.Kind listed.entry.now) (texted one.now) result }
+                    { numbers(heap, listed, one) },
+                )
+                .try_collect(heap)?;
             Ok(Formula::All(all))
         }
     }
 }
 
-// The formula over fact numbers that a formula over texts is. The form of every fact is judged before any is looked up.
+// The formula over fact numbers that a formula over texts is. The form of every fact is judged before any is told as not
+// listed.
 pub fn resolve<K: Kind>(
     heap: Global,
     listed: &ListedFacts<K>,
@@ -100,7 +95,7 @@ pub fn resolve<K: Kind>(
     ensures { Resolves (number_under K.Kind listed.now) (texted formula.now) result }
 {
     if !all_formed(listed, formula) {
-        return Err(Unresolved::NotItsForm);
+        return Err(Unresolved::NoFact(NoFact::NotItsForm));
     }
     numbers(heap, listed, formula)
 }

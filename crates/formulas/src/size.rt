@@ -1,5 +1,5 @@
 // How large a formula is.
-ghost use Rattle.std.specs.Prelude.{◌≡◌, ◌-◌, ◌^◌, min};
+ghost use Rattle.std.specs.Prelude.{◌≡◌, ◌+◌, ◌-◌, ◌^◌, min};
 ghost use Rattle.formulas.specs.Shapes.{texted};
 ghost use Rattle.formulas.specs.Spelling.{size_of};
 
@@ -12,13 +12,11 @@ pub fn size(formula: &Formula<&[u8]>) -> usize
     match formula {
         Formula::Fact(_) => 1,
         Formula::Not(inner) => size(inner).saturating_add(1),
-        Formula::All(inner) => {
-            // A loop, as in `truth`.
-            let mut all: usize = 1;
-            for one in inner {
-                all = all.saturating_add(size(one));
-            }
-            all
-        }
+        Formula::All(inner) => inner.iter().fold(
+            1,
+            |all, one|
+                ensures { result ≡ min (all + size_of (texted one.now)) (2 ^ 64 - 1) }
+            { all.saturating_add(size(one)) },
+        ),
     }
 }

@@ -4,56 +4,53 @@ use crate::tree::Unread;
 use crate::{reading, resolve, size, truth};
 use facts::kinds::Kind;
 use facts::listed_facts::ListedFacts;
-use facts::names::Names;
+use facts::names::{Names, NoFact};
 use facts::plain::{Plain, PlainFact};
 use sheets::listed::Name;
 use std::alloc::Global;
 use std::test::Fail;
 
-// The size of the formula that a text is, if it is one.
-fn size_of(heap: Global, text: &str) -> Result<Option<usize>, Unread> {
-    match reading::read(heap, text.as_bytes()) {
-        Ok(formula) => Ok(Some(size::size(&formula))),
-        Err(Unread::NotItsForm) => Ok(None),
-        Err(Unread::NoMemory) => Err(Unread::NoMemory),
-    }
+// The size of the formula that a text is.
+fn size_of(heap: Global, text: &str) -> Result<usize, Unread> {
+    let formula = reading::read(heap, text.as_bytes())?;
+    Ok(size::size(&formula))
 }
 
 #[test]
 fn texts_are_formulas_or_not(rt: HostRuntime) -> Result<(), Fail> {
     let rows = [
-        ("", None),
-        ("a", Some(1)),
-        ("all.scan.clear", Some(1)),
-        ("()", Some(1)),
-        ("!()", Some(2)),
-        ("(a)", Some(2)),
-        ("((a))", Some(3)),
-        ("(a&b)", Some(3)),
-        ("(a&!b&())", Some(5)),
-        ("(a&)", None),
-        ("(&a)", None),
-        ("(&)", None),
-        ("(a&&b)", None),
-        ("!", None),
-        ("a!", None),
-        ("(a", None),
-        ("a)", None),
-        ("a&b", None),
-        ("()a", None),
-        ("(a)(b)", None),
-        ("a(b)", None),
-        ("!!!!!!!!a", Some(9)),
-        ("!!!!!!!!!a", None),
-        ("((((((((a))))))))", Some(9)),
-        ("(((((((((a)))))))))", None),
-        ("(((((((())))))))", Some(8)),
-        ("((((((((()))))))))", None),
-        ("!(!(!(!(a))))", Some(9)),
-        ("(a&!(!(!(!(!a)))))", None),
+        ("", Err(Unread::NotItsForm)),
+        ("a", Ok(1)),
+        ("all.scan.clear", Ok(1)),
+        ("()", Ok(1)),
+        ("!()", Ok(2)),
+        ("(a)", Ok(2)),
+        ("((a))", Ok(3)),
+        ("(a&b)", Ok(3)),
+        ("(a&!b&())", Ok(5)),
+        ("(a&)", Err(Unread::NotItsForm)),
+        ("(&a)", Err(Unread::NotItsForm)),
+        ("(&)", Err(Unread::NotItsForm)),
+        ("(a&&b)", Err(Unread::NotItsForm)),
+        ("!", Err(Unread::NotItsForm)),
+        ("a!", Err(Unread::NotItsForm)),
+        ("(a", Err(Unread::NotItsForm)),
+        ("a)", Err(Unread::NotItsForm)),
+        ("a&b", Err(Unread::NotItsForm)),
+        ("()a", Err(Unread::NotItsForm)),
+        ("(a)(b)", Err(Unread::NotItsForm)),
+        ("a(b)", Err(Unread::NotItsForm)),
+        ("!!!!!!!!a", Ok(9)),
+        ("!!!!!!!!!a", Err(Unread::NotItsForm)),
+        ("((((((((a))))))))", Ok(9)),
+        ("(((((((((a)))))))))", Err(Unread::NotItsForm)),
+        ("(((((((())))))))", Ok(8)),
+        ("((((((((()))))))))", Err(Unread::NotItsForm)),
+        ("!(!(!(!(a))))", Ok(9)),
+        ("(a&!(!(!(!(!a)))))", Err(Unread::NotItsForm)),
     ];
     for (text, size) in rows {
-        assert_eq!(rt; size_of(rt.alloc(), text)?, size, "{}", text);
+        assert_eq!(rt; size_of(rt.alloc(), text), size, "{}", text);
     }
     Ok(())
 }
@@ -62,9 +59,10 @@ fn texts_are_formulas_or_not(rt: HostRuntime) -> Result<(), Fail> {
 #[test]
 fn formulas_come_true(rt: HostRuntime) -> Result<(), Fail> {
     let heap = rt.alloc();
-    let mut matters = Vec::new(heap);
-    matters.push(Name::new(heap, b"a")?)?;
-    matters.push(Name::new(heap, b"b")?)?;
+    let matters = [b"a", b"b"]
+        .iter()
+        .map(|matter| Name::new(heap, *matter))
+        .try_collect(heap)?;
     let names = Names {
         zones: Vec::new(heap),
         matters,
@@ -83,8 +81,8 @@ fn formulas_come_true(rt: HostRuntime) -> Result<(), Fail> {
         ("(a&!b)", Ok(true)),
         ("(a&b)", Ok(false)),
         ("!(a&b)", Ok(true)),
-        ("(a&c)", Err(Unresolved::NotListed)),
-        ("(c&!A)", Err(Unresolved::NotItsForm)),
+        ("(a&c)", Err(Unresolved::NoFact(NoFact::NotListed))),
+        ("(c&!A)", Err(Unresolved::NoFact(NoFact::NotItsForm))),
     ];
     for (text, expected) in rows {
         let formula = reading::read(heap, text.as_bytes())?;
@@ -92,7 +90,7 @@ fn formulas_come_true(rt: HostRuntime) -> Result<(), Fail> {
             &numbered,
             &[true, false],
         ));
-        assert!(rt; came == expected, "{}", text);
+        assert_eq!(rt; came, expected, "{}", text);
     }
     Ok(())
 }

@@ -12,13 +12,16 @@ pub enum Formula<L> {
     All(Vec<Formula<L>>),
 }
 
-// Why no formula was read.
+// Why no formula was read. Not `NoFact`: a text is read without any list, so it is never told as not listed.
 #[derive(Clone, Copy, Debug, PartialEq, Eq)]
 pub enum Unread {
     NotItsForm,
     NoMemory,
 }
 
+// `From` is written twice for this error and twice for `Unresolved`, all alike, since a derived one has no contract. One
+// error for both, generic over what is wrong, would need a type for the one thing that can be wrong with a text, and every
+// contract would name it.
 impl From<AllocError> for Unread {
     ghost from_gives = { λ _ r. r ≡ NoMemory };
 

@@ -5,15 +5,13 @@ ghost use Rattle.formulas.specs.Shapes.{numbers};
 ghost use Rattle.formulas.specs.Truth.{stands_in};
 
 use crate::tree::Formula;
+use sheets::numbered::entry_at;
 
 // Whether the fact of a number, counted from 1, stands. One that has no mark does not.
-fn stands(standing: &[bool], number: usize) -> bool
+pub fn stands(standing: &[bool], number: usize) -> bool
     ensures { result ≡ stands_in standing.now number }
 {
-    number
-        .checked_sub(1)
-        .and_then(|i| standing.get(i).copied())
-        .unwrap_or(false)
+    entry_at(standing, number).is_some_and(|mark| *mark)
 }
 
 // Whether a formula over fact numbers is true, where the marks say which facts stand: a mark at index f - 1 is that of fact f.
@@ -23,14 +21,11 @@ pub fn truth(formula: &Formula<usize>, standing: &[bool]) -> bool
     match formula {
         Formula::Fact(number) => stands(standing, *number),
         Formula::Not(inner) => !truth(inner, standing),
-        Formula::All(inner) => {
-            // A loop, since of a closure that calls this function again a proof knows nothing.
-            for one in inner {
-                if !truth(one, standing) {
-                    return false;
-                }
-            }
-            true
-        }
+        // The closure says what it gives, since that is not inferred of one that calls this function again.
+        Formula::All(inner) => inner.iter().all(
+            |one|
+                ensures { result ≡ holds (stands_in standing.entry.now) (numbers one.now) }
+            { truth(one, standing) },
+        ),
     }
 }

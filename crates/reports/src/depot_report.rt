@@ -5,6 +5,7 @@ ghost use Rattle.reports.specs.DepotReport.{inventory_text, DepotReport};
 use crate::refused::refusal_report;
 use depots::any_depot;
 use depots::any_depot::Inventory;
+use sheets::faults::Fault;
 use sheets::faulty_line::Sheets;
 use sheets::refusals::Refusal;
 use std::alloc::{AllocError, Global};
@@ -44,7 +45,12 @@ pub fn depot_report(heap: Global, sheets: &Sheets) -> Result<Vec<u8>, AllocError
             Ok(report.into_bytes())
         }
         // No report tells that memory was wanting, so it stays the error that it was.
-        Err(fault) if matches!(fault.refusal, Refusal::NoMemory) => Err(AllocError),
+        Err(
+            Fault {
+                refusal: Refusal::NoMemory,
+                ..
+            },
+        ) => Err(AllocError),
         Err(fault) => refusal_report(heap, sheets, &fault),
     }
 }

@@ -5,7 +5,7 @@ ghost use Rattle.sheets.specs.Lines.{shown, lines_of};
 
 use crate::refused::refusal_report;
 use sheets::faulty_line::Sheets;
-use sheets::layout::judge_layout;
+use sheets::layout::{TAB, judge_layout};
 use sheets::lines::{Line, Lines};
 use sheets::pieces;
 use std::alloc::{AllocError, Global};
@@ -20,11 +20,11 @@ const HEADING: &str = "The layout is right. Lines of each letter:\n";
 fn has_letter(line: &Line, letter: u8) -> bool
     ensures { result ≡ has_letter letter (shown line.now) }
 {
-    let (first, _) = pieces::cut(line.text, b'\t');
+    let (first, _) = pieces::cut(line.text, TAB);
     first == [letter].as_slice()
 }
 
-// How many lines of a sheet have a letter as their first field.
+// How many lines of a sheet have a letter as their first field. A byte and no `Letter`, since any letter may be asked for.
 pub fn count_lines(sheet: &[u8], letter: u8) -> usize
     ensures { result ≡ lines_with letter (lines_of sheet.now) }
 {

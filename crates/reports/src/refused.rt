@@ -9,7 +9,7 @@ use sheets::refusals::Refusal;
 use std::alloc::{AllocError, Global};
 use std::fmt;
 
-// The word for a sheet, or for none. It is no `Display`, since the option is the library's type.
+// The word for a sheet, or for none. It is no `Display` of a sheet, since the report of none has a word too.
 fn word(sheet: Option<Sheet>) -> &'static str
     ensures { result.now ≡ word_of sheet }
 {

@@ -1,6 +1,6 @@
 -- What the judgement of a line tells of its faults. Assumes nothing.
-use Rattle.std.proofs.Common.{◌≡◌, ℕ, Bool, true, false, ◌||◌, eqb, List, [], ◌∷◌, length, Some, None, Option, sym, refl, ap, ◌∙◌, subst, inl, inr, ⊎_elim, arith}
-use Rattle.std.proofs.lemmas.Bool.{cases_Bool, cond-true, cond-false, eqb-true, eqb-false, both_ways}
+use Rattle.std.proofs.Common.{◌≡◌, ℕ, Bool, true, false, ◌||◌, List, [], ◌∷◌, length, Some, None, Option, sym, refl, ap, ◌∙◌, subst, inl, inr, ⊎_elim, arith}
+use Rattle.std.proofs.lemmas.Bool.{cases_Bool, cond-true, cond-false, both_ways}
 use Rattle.sheets.specs.declared.layout.Above.{Above}
 use Rattle.sheets.specs.declared.letters.Letter.{Letter}
 use Rattle.sheets.specs.declared.refusals.Refusal.{Refusal}
@@ -44,14 +44,14 @@ module _ (a : Above) (l : Line) (read : true ≡ legible l) (k : Letter) (let_th
   only-count w (inr (inl f)) = absurd (f.1 k k_here k_may)
   only-count w (inr (inr f)) = (f.0, subst (λ m. length (fields l) ≡ fields_of m → ⊥) (same_Some f.1.0 k (sym f.1.1 ∙ k_here)) f.1.2)
 
-  pub count-wrong : (n : ℕ) → n ≡ fields_of k → false ≡ eqb (length (fields l)) n → Lowest (LayoutFault a l) FieldCount
-  count-wrong n asked other = record {
-    holds = inr (inr (refl, (k, k_here, subst (λ m. length (fields l) ≡ m → ⊥) asked (eqb-false (length (fields l)) n (sym other)))));
+  pub count-wrong : (length (fields l) ≡ fields_of k → ⊥) → Lowest (LayoutFault a l) FieldCount
+  count-wrong other = record {
+    holds = inr (inr (refl, (k, k_here, other)));
     first = λ v f. subst (λ u. NoLater (rank_of FieldCount) (rank_of u)) (sym (only-count v f).0) (no_later_itself (rank_of FieldCount));
   }
 
-  pub nothing-wrong : (n : ℕ) → n ≡ fields_of k → true ≡ eqb (length (fields l)) n → (w : Refusal) → LayoutFault a l w → ⊥
-  nothing-wrong n asked right w f = (only-count w f).1 (eqb-true (length (fields l)) n (sym right) ∙ asked)
+  pub nothing-wrong : length (fields l) ≡ fields_of k → (w : Refusal) → LayoutFault a l w → ⊥
+  nothing-wrong right w f = (only-count w f).1 right
 
 -- what stands above the line below, from its two parts
 pub goes_on : (a b : Above) (l : Line) (k : Letter) → letter_on l ≡ Some k → b.letter ≡ Some k → b.sight ≡ (a.sight || says_sight l) → b ≡ after a l

@@ -1,22 +1,17 @@
--- A walk over the lines of a depot sheet, which judges the layout of each. Assumes nothing.
-use Rattle.std.proofs.Common.{◌≡◌, ℕ, ◌+◌, ◌<◌, ◌≤◌, ◌||◌, List, [], ◌∷◌, ◌++◌, length, take, drop, Some, sym, refl, ap, ◌∙◌, subst, inl, inr, arith, length-drop}
-use Rattle.std.proofs.lemmas.List.{take_all}
+-- What a walk over the lines of a depot sheet judges of the layout of each. Assumes nothing.
+use Rattle.std.proofs.Common.{◌≡◌, ℕ, ◌+◌, ◌<◌, ◌||◌, List, [], ◌∷◌, ◌++◌, take, Some, sym, refl, ap, ◌∙◌, subst, inl, inr, arith}
 use Rattle.std.proofs.lemmas.List.Recursion.{or_push}
-use Rattle.sheets.specs.declared.faults.Fault.{Fault}
-use Rattle.sheets.specs.declared.faults.Sheet.TheVariants.{Depot}
 use Rattle.sheets.specs.declared.layout.Above.{Above}
 use Rattle.sheets.specs.declared.letters.Letter.{Letter}
-use Rattle.sheets.specs.declared.letters.Letter.TheVariants.{Goal}
 use Rattle.sheets.specs.declared.refusals.Refusal.{Refusal}
 use Rattle.sheets.specs.declared.refusals.Refusal.TheVariants.{OverLimit, NoGoal}
 use Rattle.sheets.specs.Faults.{NoLater, Lowest}
-use Rattle.sheets.specs.Layout.{depot_limit, letter_on, says_sight, last_letter, is_sight, above_of, after, LayoutFault, Unfinished, LayoutRefused, LaidOut}
+use Rattle.sheets.specs.Layout.{letter_on, says_sight, last_letter, is_sight, above_of, after, LayoutFault, Unfinished}
 use Rattle.sheets.specs.Lines.{Line, lines_of}
 use Rattle.sheets.specs.Refusals.{number_of, rank_of}
 use Rattle.sheets.proofs.Judged.{goes_on}
-use Rattle.std.proofs.lemmas.Option.{slice_get_within}
-use Rattle.sheets.proofs.Places.{nth_here, drop-next, take_next}
-use Rattle.sheets.proofs.Sheetwise.{Late, Clear, clear_none, clear-more, line_refused, end_refused, end-right}
+use Rattle.sheets.proofs.Passed.{Passed, passed-on}
+use Rattle.sheets.proofs.Sheetwise.{Late}
 
 -- what is wrong with a line, below the lines above it
 abbrev pub Wrong : List Line → Line → Refusal → Type 0
@@ -55,53 +50,11 @@ late = record {
     before above l w (inr (inl f)) = subst (λ u. NoLater (rank_of u) (rank_of NoGoal)) (sym f.0) (inl (omega arith))
     before above l w (inr (inr f)) = subst (λ u. NoLater (rank_of u) (rank_of NoGoal)) (sym f.0) (inl (omega arith))
 
--- the first n lines of s have no fault, a is what they say of the next, and rest is what is left of s
-pub record Walked (s rest : List ℕ) (n : ℕ) (a : Above) : Type 0 where
-  pub left : drop n (lines_of s) ≡ lines_of rest
-  pub seen : a ≡ above_of (take n (lines_of s))
-  pub clear : Clear Wrong (lines_of s) n
-  pub within : n ≤ length (lines_of s)
+module _ (s rest : List ℕ) (n : ℕ) (a : Above) (passed : Passed Wrong s rest n a) (l : Line) (below : List ℕ) (next : lines_of rest ≡ l ∷ lines_of below) where
+  pub lowest-here : (w : Refusal) → Lowest (LayoutFault a l) w → Lowest (Wrong (take n (lines_of s)) l) w
+  lowest-here w low = subst (λ x. Lowest (LayoutFault x l) w) passed.seen low
 
-pub begun : (s : List ℕ) (a : Above) → a ≡ above_of [] → Walked s s 0 a
-begun s a is = record { left = refl; seen = is; clear = clear_none Wrong (lines_of s); within = omega arith }
-
-module _ (s rest : List ℕ) (n : ℕ) (a : Above) (walked : Walked s rest n a) where
-  -- one line more
-  module _ (l : Line) (below : List ℕ) (next : lines_of rest ≡ l ∷ lines_of below) where
-    here : drop n (lines_of s) ≡ l ∷ lines_of below
-    here = walked.left ∙ next
-
-    pub walk-on : (b : Above) → ((w : Refusal) → LayoutFault a l w → ⊥) → b ≡ after a l → Walked s below (n + 1) b
-    walk-on b right is = record {
-      left = drop-next (lines_of s) n l (lines_of below) here;
-      seen = is ∙ ap (λ x. after x l) walked.seen ∙ sym (above-push (take n (lines_of s)) l) ∙ ap above_of (sym (take_next (lines_of s) n l (lines_of below) here));
-      clear = clear-more Wrong (lines_of s) n l (nth_here (lines_of s) n l (lines_of below) here) walked.clear (λ w f. right w (subst (λ x. LayoutFault x l w) (sym walked.seen) f));
-      within = omega (arith, slice_get_within (lines_of s) n l (nth_here (lines_of s) n l (lines_of below) here));
-    }
-
-    pub stopped : (w : Refusal) → length s ≤ depot_limit → Lowest (LayoutFault a l) w → LayoutRefused s (n + 1) w
-    stopped w few low =
-        line_refused depot_limit Wrong Unfinished late s few n l w (nth_here (lines_of s) n l (lines_of below) here) walked.clear
-        (subst (λ x. Lowest (LayoutFault x l) w) walked.seen low)
-
-  -- no line is left
-  module _ (none : lines_of rest ≡ []) (few : length s ≤ depot_limit) where
-    all : n ≡ length (lines_of s)
-    all = omega (arith, length-drop n (lines_of s), ap length (walked.left ∙ none), walked.within)
-
-    clear-all : Clear Wrong (lines_of s) (length (lines_of s))
-    clear-all = subst (Clear Wrong (lines_of s)) all walked.clear
-
-    letter_is : a.letter ≡ last_letter (lines_of s)
-    letter_is = ap (λ x. x.letter) walked.seen ∙ ap last_letter (take_all n (lines_of s) (omega (arith, all)))
-
-    pub ends_with_goal : a.letter ≡ Some Goal → LaidOut s
-    ends_with_goal is = end-right depot_limit Wrong Unfinished late s few clear-all (λ v f. f.1 (sym letter_is ∙ is))
-
-    pub ends_without_goal : (a.letter ≡ Some Goal → ⊥) → LayoutRefused s (length (lines_of s)) NoGoal
-    ends_without_goal not = (end_refused depot_limit Wrong Unfinished late s few clear-all NoGoal (refl, λ is. not (letter_is ∙ is)) (λ v f. f.0))
-
--- a refusal as a fault tells it
-pub told : (s : List ℕ) (f : Fault) (n : ℕ) (w : Refusal) → f.sheet ≡ Some Depot → f.line ≡ n → f.refusal ≡ w → LayoutRefused s n w → (f.sheet ≡ Some Depot) × LayoutRefused s f.line f.refusal
-told s f n w on at for low =
-    (on, subst (λ i. LayoutRefused s i f.refusal) (sym at) (subst (LayoutRefused s n) (sym for) low))
+  pub walk-on : (b : Above) → ((w : Refusal) → LayoutFault a l w → ⊥) → b ≡ after a l → Passed Wrong s below (n + 1) b
+  walk-on b right is =
+      passed-on Wrong s rest n a passed l below next b (λ w f. right w (subst (λ x. LayoutFault x l w) (sym passed.seen) f))
+      (is ∙ ap (λ x. after x l) passed.seen ∙ sym (above-push (take n (lines_of s)) l))

@@ -1,6 +1,8 @@
 pub mod Cuts
+pub mod Handed
 pub mod Judged
 pub mod LaidOut
+pub mod Passed
 pub mod Places
 pub mod Rows
 pub mod Sheetwise

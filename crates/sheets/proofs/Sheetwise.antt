@@ -20,9 +20,6 @@ pub record Late (Wrong : List Line → Line → Refusal → Type 0) (Lacking : L
 abbrev pub Clear : (List Line → Line → Refusal → Type 0) → List Line → ℕ → Type 0
 Clear Wrong ls n = (k : ℕ) (l : Line) → k < n → slice_get ls k ≡ Some l → (w : Refusal) → Wrong (take k ls) l w → ⊥
 
-pub clear_none : (Wrong : List Line → Line → Refusal → Type 0) (ls : List Line) → Clear Wrong ls 0
-clear_none Wrong ls k l below here w f = absurd (omega arith)
-
 pub clear-more : (Wrong : List Line → Line → Refusal → Type 0) (ls : List Line) (n : ℕ) (l : Line) → slice_get ls n ≡ Some l → Clear Wrong ls n → ((w : Refusal) → Wrong (take n ls) l w → ⊥) → Clear Wrong ls (n + 1)
 clear-more Wrong ls n l is clear right k m below here w f =
     ⊎_elim

@@ -16,26 +16,8 @@ ranked r = get_or (reasons (get_or r 1 0) (get_or r 2 0) (get_or r 3 0) (get_or 
 
 ranked-is : (w : Refusal) → ranked (rank_of w) ≡ w
 unfolding ranked reasons
-ranked-is OverLimit = refl
-ranked-is BadLine = refl
-ranked-is BadLetter = refl
-ranked-is FieldCount = refl
-ranked-is (NotItsForm field) = refl
-ranked-is (NotListed field) = refl
-ranked-is (Twice field) = refl
-ranked-is (AlwaysTrue field) = refl
-ranked-is TableFull = refl
-ranked-is NoGoal = refl
-ranked-is StepSize = refl
-ranked-is (UnknownMove place) = refl
-ranked-is (RepeatedMove place) = refl
-ranked-is (NeedFalse place) = refl
-ranked-is (Contradictory a b c d) = refl
-ranked-is (Disturbed set place part) = refl
-ranked-is GoalFalse = refl
-ranked-is UnknownNumber = refl
-ranked-is BufferShort = refl
 ranked-is NoMemory = refl
+ranked-is w = refl
 
 -- two rows of which neither comes later are one
 pub same_rows : (xs ys : List ℕ) → NoLater xs ys → NoLater ys xs → xs ≡ ys

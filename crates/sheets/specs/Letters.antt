@@ -3,7 +3,7 @@ use Rattle.std.specs.Prelude.{◌≡◌, ℕ, ◌≤◌, Bool, true, cond, ◌&&
 use Rattle.sheets.specs.declared.letters.Letter.{Letter}
 use Rattle.sheets.specs.declared.letters.Letter.TheVariants.{Kind, Zone, Matter, Fact, Start, Move, Effect, Goal}
 
--- The byte by which a letter is written.
+-- The byte by which a letter is written: a row for each, as in the order below, since no rule gives one from another.
 abbrev pub byte_of : Letter → ℕ
 byte_of Kind = 75
 byte_of Zone = 90
@@ -32,14 +32,9 @@ order_above (Some l) = order_of l
 
 -- How many fields a line with a letter has, the letter among them.
 abbrev pub fields_of : Letter → ℕ
-fields_of Kind = 2
-fields_of Zone = 2
-fields_of Matter = 2
-fields_of Fact = 2
-fields_of Start = 2
 fields_of Move = 3
 fields_of Effect = 4
-fields_of Goal = 2
+fields_of l = 2
 
 -- The line above has a letter from one to another, in their order.
 abbrev pub among : Option Letter → Letter → Letter → Bool

@@ -6,6 +6,7 @@ pub mod Letters
 pub mod Lines
 pub mod Listed
 pub mod Names
+pub mod Numbered
 pub mod Pieces
 pub mod Refusals
 pub mod Rest

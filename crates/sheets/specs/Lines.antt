@@ -1,7 +1,7 @@
 -- The lines of a sheet. Assumes nothing.
-use Rattle.std.specs.Prelude.{ℕ, zero, suc, Bool, true, false, List, [], ◌∷◌, Some, None, Option}
+use Rattle.std.specs.Prelude.{ℕ, Bool, true, false, List, [], ◌∷◌, Some, None, Option}
 use Rattle.std.specs.Option.{option_map}
-use Rattle.std.specs.List.{slice_get}
+use Rattle.sheets.specs.Numbered.{entry_at}
 use Rattle.sheets.specs.Pieces.{pieces}
 use Rattle.sheets.specs.declared.faults.Sheet.{Sheet}
 use Rattle.sheets.specs.declared.faults.Sheet.TheVariants.{Depot, Plan}
@@ -35,10 +35,9 @@ as_lines (p ∷ q ∷ ps) = record { text = p; ended = true } ∷ as_lines (q �
 abbrev pub lines_of : List ℕ → List Line
 lines_of s = as_lines (pieces line_end s)
 
--- The bytes of the line with a number, counted from 1; no line has the number 0.
+-- The bytes of the line with a number.
 abbrev pub line_at : List ℕ → ℕ → Option (List ℕ)
-line_at s zero = None
-line_at s (suc n) = option_map (λ l. l.text) (slice_get (lines_of s) n)
+line_at s n = option_map (λ l. l.text) (entry_at (lines_of s) n)
 
 -- The line that a refusal speaks of: of the sheet it names, and none where it names no sheet.
 abbrev pub line_on : List ℕ → List ℕ → Option Sheet → ℕ → Option (List ℕ)

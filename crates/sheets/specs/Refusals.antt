@@ -3,7 +3,7 @@ use Rattle.std.specs.Prelude.{ℕ, List, [], ◌∷◌}
 use Rattle.sheets.specs.declared.refusals.Refusal.{Refusal}
 use Rattle.sheets.specs.declared.refusals.Refusal.TheVariants.{OverLimit, BadLine, BadLetter, FieldCount, NotItsForm, NotListed, Twice, AlwaysTrue, TableFull, NoGoal, StepSize, UnknownMove, RepeatedMove, NeedFalse, Contradictory, Disturbed, GoalFalse, UnknownNumber, BufferShort, NoMemory}
 
--- The number of each reason.
+-- The number of each reason: a row for each, since no rule gives one from another.
 abbrev pub number_of : Refusal → ℕ
 number_of OverLimit = 1
 number_of BadLine = 2
@@ -36,26 +36,16 @@ one_detail n = n ∷ 0 ∷ 0 ∷ 0 ∷ []
 
 -- The four details of each reason, 0 where unused.
 abbrev pub details_of : Refusal → List ℕ
-details_of OverLimit = no_detail
-details_of BadLine = no_detail
-details_of BadLetter = no_detail
-details_of FieldCount = no_detail
 details_of (NotItsForm field) = one_detail field
 details_of (NotListed field) = one_detail field
 details_of (Twice field) = one_detail field
 details_of (AlwaysTrue field) = one_detail field
-details_of TableFull = no_detail
-details_of NoGoal = no_detail
-details_of StepSize = no_detail
 details_of (UnknownMove place) = one_detail place
 details_of (RepeatedMove place) = one_detail place
 details_of (NeedFalse place) = one_detail place
 details_of (Contradictory setting_place setting_effect strike_place strike_effect) = setting_place ∷ setting_effect ∷ strike_place ∷ strike_effect ∷ []
 details_of (Disturbed set place part) = set ∷ place ∷ part ∷ 0 ∷ []
-details_of GoalFalse = no_detail
-details_of UnknownNumber = no_detail
-details_of BufferShort = no_detail
-details_of NoMemory = no_detail
+details_of w = no_detail
 
 -- What decides which of two refusals is told, the lower before the higher: the number, and then the details.
 abbrev pub rank_of : Refusal → List ℕ

@@ -10,7 +10,7 @@ pub enum Sheet {
     Plan,
 }
 
-// A refusal, the sheet it speaks of, if any, and the line, which is 0 where it speaks of none.
+// A refusal, the sheet it speaks of, if any, and the line, which is 0 where it speaks of none, as a report prints it.
 #[derive(Clone, Copy)]
 pub struct Fault {
     pub sheet: Option<Sheet>,

@@ -18,8 +18,7 @@ fn line_at<'a>(sheet: &'a [u8], number: usize) -> Option<&'a [u8]>
     ensures { option_map (λ x. x.now) result ≡ line_at sheet.now number }
 {
     let index = number.checked_sub(1)?;
-    let line = Lines::of(sheet).nth(index)?;
-    Some(line.text)
+    Lines::of(sheet).nth(index).map(|line| line.text)
 }
 
 impl<'a> Sheets<'a> {

@@ -1,12 +1,13 @@
 // The layout of a depot sheet: its bytes, letters and numbers of fields, judged line by line below the lines above.
-ghost use Rattle.std.specs.Prelude.{◌≡◌, ◌||◌, [], Some, Decides, MatchResult};
+ghost use Rattle.std.specs.Prelude.{◌≡◌, ◌≢◌, ◌<◌, ◌≤◌, ◌||◌, [], length, Some, Decides, MatchResult};
 ghost use Rattle.sheets.specs.declared.faults.Sheet.TheVariants.{Depot};
 ghost use Rattle.sheets.specs.declared.letters.Letter.TheVariants.{Goal};
+ghost use Rattle.sheets.specs.declared.refusals.Refusal.TheVariants.{OverLimit, NoGoal};
 ghost use Rattle.sheets.specs.Bytes.{every};
 ghost use Rattle.sheets.specs.Faults.{Lowest};
-ghost use Rattle.sheets.specs.Layout.{allowed, legible, letter_on, says_sight, above_of, after, LayoutFault, LayoutRefused, LaidOut};
+ghost use Rattle.sheets.specs.Layout.{depot_limit, allowed, legible, letter_on, says_sight, above_of, after, LayoutFault, LayoutRefused, LaidOut};
 ghost use Rattle.sheets.specs.Letters.{permitted};
-ghost use Rattle.sheets.specs.Lines.{shown};
+ghost use Rattle.sheets.specs.Lines.{shown, lines_of};
 
 use crate::faults::{Fault, Sheet};
 use crate::letters::{Letter, letter_here};
@@ -14,12 +15,14 @@ use crate::lines::{Line, Lines};
 use crate::pieces;
 use crate::refusals::Refusal;
 
-// The most bytes of a depot sheet, and of a line before its end.
+// The most bytes of a depot sheet.
 pub const DEPOT_LIMIT: usize = 32768;
 
+// The most bytes of a line before its end.
 const LINE_LIMIT: usize = 240;
 
-const TAB: u8 = 9;
+// The byte that parts the fields of a line.
+pub const TAB: u8 = b'\t';
 
 // What the lines above say of the next: the letter right above it, and whether the sheet is of the sight kind.
 #[derive(Clone, Copy)]
@@ -32,7 +35,7 @@ pub struct Above {
 fn has_allowed_bytes(text: &[u8]) -> bool
     ensures { result ≡ every allowed text.now }
 {
-    text.iter().all(|b| matches!(b, b'\t' | 33..=126))
+    text.iter().all(|b| matches!(*b, TAB | 33..=126))
 }
 
 // Whether a line has its end, is not too long and has no byte that is not allowed.
@@ -84,10 +87,8 @@ impl Above {
         if !is_legible(line) {
             return Err(Refusal::BadLine);
         }
-        let Some(letter) = self.letter_on(line) else {
-            return Err(Refusal::BadLetter);
-        };
-        if !pieces::has_pieces(line.text, TAB, letter.fields()) {
+        let letter = self.letter_on(line).ok_or(Refusal::BadLetter)?;
+        if pieces::count(line.text, TAB) != letter.fields() {
             return Err(Refusal::FieldCount);
         }
         Ok(letter)
@@ -111,28 +112,42 @@ impl Above {
         let letter = self.judge_letter(line)?;
         Ok(self.below(line, letter))
     }
+
+    // The end of a depot sheet below this: right, or refused for want of its goal.
+    pub fn judge_end(&self, sheet: &[u8]) -> Result<(), Fault>
+        ensures { MatchResult result (λ _. self.now.letter ≡ Some Goal) (λ f. (self.now.letter ≢ Some Goal) × (f.sheet ≡ Some Depot) × (f.line ≡ length (lines_of sheet.now)) × (f.refusal ≡ NoGoal)) }
+    {
+        if !self.is_goal() {
+            let count = Lines::of(sheet).count();
+            return Err(Fault::on(Sheet::Depot, count, Refusal::NoGoal));
+        }
+        Ok(())
+    }
+}
+
+// The size of a depot sheet: within its limit, or refused before any line.
+pub fn judge_limit(sheet: &[u8]) -> Result<(), Fault>
+    ensures { MatchResult result (λ _. length sheet.now ≤ depot_limit) (λ f. (depot_limit < length sheet.now) × (f.sheet ≡ Some Depot) × (f.line ≡ 0) × (f.refusal ≡ OverLimit)) }
+{
+    if sheet.len() > DEPOT_LIMIT {
+        return Err(Fault::on(Sheet::Depot, 0, Refusal::OverLimit));
+    }
+    Ok(())
 }
 
 // The layout of a whole depot sheet: right, or refused for the lowest fault.
 pub fn judge_layout(sheet: &[u8]) -> Result<(), Fault>
     ensures { MatchResult result (λ _. LaidOut sheet.now) (λ f. (f.sheet ≡ Some Depot) × LayoutRefused sheet.now f.line f.refusal) }
 {
-    if sheet.len() > DEPOT_LIMIT {
-        return Err(Fault::on(Sheet::Depot, 0, Refusal::OverLimit));
-    }
+    judge_limit(sheet)?;
     let mut above = Above::nothing();
     // The reader of whole sheets walks over the lines alike. One walk for both would be told what to do with a line by a
     // closure that writes the depot, and its contract, a chain of all that the closure did, would be longer than this.
     for (i, line) in Lines::of(sheet).enumerate() {
-        above = match above.judge(&line) {
-            Ok(next) => next,
-            // No `map_err`, whose closure could not add to the number.
-            Err(refusal) => return Err(Fault::on(Sheet::Depot, i + 1, refusal)),
-        };
+        let number = i + 1;
+        above = above
+            .judge(&line)
+            .map_err(|refusal| Fault::on(Sheet::Depot, number, refusal))?;
     }
-    if !above.is_goal() {
-        let count = Lines::of(sheet).count();
-        return Err(Fault::on(Sheet::Depot, count, Refusal::NoGoal));
-    }
-    Ok(())
+    above.judge_end(sheet)
 }

@@ -1,4 +1,4 @@
-// The sheets as text: their lines, fields and names, and what is told of a faulty one.
+// The sheets as text: their lines, fields and names, how their entries are numbered, and what is told of a faulty one.
 #![tactic(auto)]
 
 pub mod faults;
@@ -9,5 +9,6 @@ pub mod letters;
 pub mod lines;
 pub mod listed;
 pub mod names;
+pub mod numbered;
 pub mod pieces;
 pub mod refusals;

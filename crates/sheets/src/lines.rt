@@ -19,7 +19,7 @@ pub struct Lines<'a> {
     rest: &'a [u8],
 }
 
-const LINE_END: u8 = 10;
+const LINE_END: u8 = b'\n';
 
 // The first line of a sheet and what follows it, or none where the sheet has no byte.
 pub fn first_line<'a>(sheet: &'a [u8]) -> Option<(Line<'a>, &'a [u8])>
@@ -29,10 +29,11 @@ pub fn first_line<'a>(sheet: &'a [u8]) -> Option<(Line<'a>, &'a [u8])>
         return None;
     }
     let (text, rest) = pieces::cut(sheet, LINE_END);
-    match rest {
-        Some(rest) => Some((Line { text, ended: true }, rest)),
-        None => Some((Line { text, ended: false }, &[])),
-    }
+    let line = Line {
+        text,
+        ended: rest.is_some(),
+    };
+    Some((line, rest.unwrap_or(&[])))
 }
 
 impl<'a> Iterator for Lines<'a> {

@@ -33,7 +33,7 @@ impl Name {
         &self.text
     }
 
-    // Whether the name is written like this.
+    // Whether the name is written like this. No `==`, since a name is compared with a text and not with a name.
     pub fn is(&self, text: &[u8]) -> bool
         ensures { result ≡ bytes_eq self.now text.now }
     {

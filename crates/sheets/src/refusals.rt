@@ -70,10 +70,12 @@ pub enum Refusal {
     UnknownNumber,
     // the buffer is shorter than the report
     BufferShort,
-    // there was no memory to go on: no reason of the rules, so it has the number 0
+    // there was no memory to go on: a case here, since a call says no by one record, which `?` hands on; the number 0,
+    // since it is no reason of the rules
     NoMemory,
 }
 
+// Both written out, since a derived `From` has no contract.
 impl From<AllocError> for Refusal {
     ghost from_gives = { λ _ r. r ≡ NoMemory };
 

@@ -1,7 +1,9 @@
 -- Rows put together mark by mark, and what sets of moves do. Assumes nothing.
-use Rattle.std.proofs.Common.{◌≡◌, ℕ, zero, suc, ◌+◌, ◌/◌, ◌%◌, ◌<◌, Bool, true, false, cond, not, ◌&&◌, ◌||◌, eqb, List, [], ◌∷◌, length, get_or, drop, sym, refl, ap, ◌∙◌, inl, inr, arith}
+use Rattle.std.proofs.Common.{◌≡◌, ℕ, zero, suc, ◌+◌, ◌/◌, ◌%◌, ◌^◌, ◌<◌, ◌≤◌, Bool, true, false, cond, not, ◌&&◌, ◌||◌, eqb, List, [], ◌∷◌, length, get_or, drop, sym, refl, ap, ◌∙◌, inl, inr, add-one, arith}
 use mathlib.Core.Path.{fun_ext}
-use Rattle.std.proofs.lemmas.List.{drop_more, get_or_past}
+use Rattle.std.proofs.Math.Bool.{or-false, or_assoc}
+use Rattle.std.proofs.Math.Nat.{div-one}
+use Rattle.std.proofs.lemmas.List.{drop_all, drop_more, get_or_past}
 use Rattle.std.proofs.lemmas.Bool.Decides.{nat_tests}
 use Rattle.std.proofs.lemmas.Bool.{cases_lt}
 use Rattle.formulas.specs.Truth.{stands_in}
@@ -10,8 +12,9 @@ use Rattle.walkthroughs.specs.Depots.{Depot}
 use Rattle.std.specs.List.{list_any}
 use Rattle.walkthroughs.specs.Firing.{after, fired, fired_by}
 use Rattle.walkthroughs.specs.Outcomes.{AreOutcomes, Together, left_by, picked}
-use Rattle.walkthroughs.specs.Sets.{chosen}
+use Rattle.walkthroughs.specs.Sets.{chosen, in_set}
 use Rattle.walkthroughs.proofs.Counts.{any-joined}
+use Rattle.walkthroughs.proofs.Subsets.{digit-shifted, halved}
 
 -- a row by its marks, where it and what it is made of have 128
 pub joined-rows : (row more after : List Bool) → length row ≡ 128 → length more ≡ 128 → length after ≡ 128 → ((k : ℕ) → k < 128 → get_or after k false ≡ (get_or row k false || get_or more k false)) → (f : ℕ) → stands_in after f ≡ (stands_in row f || stands_in more f)
@@ -27,18 +30,32 @@ left-row start after o long adds-long longer filled = fun_ext by_number
 
 -- what is left of a set gives the whole
 module _ (P : Outcome → Bool) (outcomes : List Outcome) (number : ℕ) where
-  abbrev pub Uniting : Bool → ℕ → ℕ → Type 0
-  Uniting sofar rest i = (sofar || list_any P (picked rest (drop i outcomes))) ≡ list_any P (picked number outcomes)
+  abbrev pub Uniting : Bool → ℕ → Type 0
+  Uniting sofar i = (sofar || list_any P (picked (number / 2 ^ i) (drop i outcomes))) ≡ list_any P (picked number outcomes)
 
-  module _ (sofar next : Bool) (rest i : ℕ) (o : Outcome) (within : i < length outcomes) (is : o ≡ get_or outcomes i o) (now : Uniting sofar rest i) where
-    here : (sofar || list_any P (picked rest (o ∷ drop (i + 1) outcomes))) ≡ list_any P (picked number outcomes)
-    here = ap (λ x. sofar || list_any P (picked rest (x ∷ drop (i + 1) outcomes))) is ∙ ap (λ l. sofar || list_any P (picked rest l)) (sym (drop_more outcomes i o within)) ∙ now
+  pub unite_none : (sofar : Bool) → sofar ≡ false → Uniting sofar 0
+  unite_none sofar none = ap (λ b. b || list_any P (picked (number / 1) outcomes)) none ∙ ap (λ n. list_any P (picked n outcomes)) (div-one number)
 
-    pub unite_more : rest % 2 ≡ 1 → next ≡ (sofar || P o) → Uniting next (rest / 2) (i + 1)
-    unite_more odd more = let h = here in grind (arith, nat_tests)
+  pub unite_all : (sofar : Bool) (i : ℕ) → length outcomes ≤ i → Uniting sofar i → sofar ≡ list_any P (picked number outcomes)
+  unite_all sofar i end now = sym (or-false sofar) ∙ ap (λ l. sofar || list_any P (picked (number / 2 ^ i) l)) (sym (drop_all i outcomes end)) ∙ now
 
-    pub unite_on : (rest % 2 ≡ 1 → ⊥) → next ≡ sofar → Uniting next (rest / 2) (i + 1)
-    unite_on even same = let h = here in grind (arith, nat_tests)
+  module _ (sofar next : Bool) (i : ℕ) (o : Outcome) (within : i < length outcomes) (is : o ≡ get_or outcomes i o) (now : Uniting sofar i) where
+    abbrev rest : List Outcome
+    rest = picked (number / 2 ^ (i + 1)) (drop (i + 1) outcomes)
+
+    here : (b : Bool) → b ≡ in_set number (i + 1) → (sofar || list_any P (cond b (o ∷ rest) rest)) ≡ list_any P (picked number outcomes)
+    here b told =
+        ap (λ t. sofar || list_any P (cond t (o ∷ rest) rest)) (told ∙ ap (in_set number) (add-one i) ∙ digit-shifted number i)
+        ∙ ap (λ n. sofar || list_any P (cond (eqb (number / 2 ^ i % 2) 1) (o ∷ picked n (drop (i + 1) outcomes)) (picked n (drop (i + 1) outcomes)))) (sym (halved number i))
+        ∙ ap (λ x. sofar || list_any P (picked (number / 2 ^ i) (x ∷ drop (i + 1) outcomes))) is
+        ∙ ap (λ l. sofar || list_any P (picked (number / 2 ^ i) l)) (sym (drop_more outcomes i o within))
+        ∙ now
+
+    pub unite_more : (b : Bool) → b ≡ in_set number (i + 1) → b ≡ true → next ≡ (sofar || P o) → Uniting next (i + 1)
+    unite_more b told inside more = ap (λ n. n || list_any P rest) more ∙ or_assoc sofar (P o) (list_any P rest) ∙ here true (sym inside ∙ told)
+
+    pub unite_on : (b : Bool) → b ≡ in_set number (i + 1) → b ≡ false → next ≡ sofar → Uniting next (i + 1)
+    unite_on b told outside same = ap (λ n. n || list_any P rest) same ∙ here false (sym outside ∙ told)
 
 -- what the outcomes of a set do is what its moves do
 module _ (P : Outcome → Bool) (Q : ℕ → Bool) where

@@ -4,7 +4,8 @@ use mathlib.Core.Path.{fun_ext}
 use mathlib.Core.Bool.{and-true}
 use Rattle.std.specs.List.{flat_map, AllByRecursion, list_any}
 use Rattle.std.proofs.lemmas.Bool.{cases_Bool, or_left, true≢false}
-use Rattle.walkthroughs.specs.Depots.{Depot, Effect, State, Carrying, move_of, truth_of, reads}
+use Rattle.depots.specs.Tables.{Effect}
+use Rattle.walkthroughs.specs.Depots.{Depot, State, Carrying, move_of, truth_of, reads}
 use Rattle.walkthroughs.specs.Firing.{fires, fired_by, fired, adds, removes, after, clash, contradictory, one_by_one, Closed, start_of}
 use Rattle.walkthroughs.specs.Laws.{EffectsTakePlace, GroupsJoin, UnlistedStay}
 use Rattle.walkthroughs.specs.Lists.{SameMoves, Within, times}

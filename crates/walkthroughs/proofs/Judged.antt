@@ -7,7 +7,8 @@ use Rattle.std.proofs.lemmas.Bool.{cases_lt, false≢true, le-leb, leb-true, not
 use Rattle.std.proofs.lemmas.Bool.Decides.{Decides-and, Decides-eqb, Decides-like, Decides-ltb, Decides-not, Decides-or}
 use Rattle.sheets.specs.declared.refusals.Refusal.{Refusal}
 use Rattle.sheets.specs.declared.refusals.Refusal.TheVariants.{OverLimit, BadLine, BadLetter, FieldCount, NotItsForm, NotListed, Twice, AlwaysTrue, TableFull, NoGoal, StepSize, UnknownMove, RepeatedMove, NeedFalse, Contradictory, Disturbed, GoalFalse, UnknownNumber, BufferShort, NoMemory}
-use Rattle.walkthroughs.specs.Depots.{Depot, Effect, State, Carrying, Listed, effect_of, move_of, reads}
+use Rattle.depots.specs.Tables.{Effect}
+use Rattle.walkthroughs.specs.Depots.{Depot, State, Carrying, Listed, effect_of, move_of, reads}
 use Rattle.walkthroughs.specs.Disturbance.{move_at}
 use Rattle.walkthroughs.specs.Firing.{after, clash, fires, settings_at, strikes_at}
 use Rattle.walkthroughs.specs.Judging.{effects_in, has_fault, is_listed, judge, possible, up_to}

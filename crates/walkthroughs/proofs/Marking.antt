@@ -10,7 +10,7 @@ use Rattle.std.specs.Cmp.{booleans_Decides}
 use Rattle.formulas.specs.Truth.{stands_in}
 use Rattle.walkthroughs.specs.declared.marks.Marks.{Marks}
 use Rattle.walkthroughs.specs.Depots.{State}
-use Rattle.walkthroughs.specs.Marks.{is_markable, moved_to, none_stand, standing, turned}
+use Rattle.walkthroughs.specs.Marks.{moved_to, none_stand, standing, turned}
 use Rattle.walkthroughs.specs.Steps.{changed}
 
 -- a number that no mark has does not stand
@@ -18,17 +18,15 @@ pub stands_outside : (m : Marks) (n : ℕ) → (n ≡ 0) ⊎ (128 < n) → stand
 unfolding standing
 stands_outside m n out = grind (arith, nat_tests)
 
--- numbers that a mark has, and the others
-pub markable : (n : ℕ) → is_markable n ≡ true → (n ≡ 0 → ⊥) × (n ≤ 128)
-markable n has = (λ z. grind (arith, nat_tests), grind (arith, nat_tests))
-
-pub unmarkable : (n : ℕ) → (is_markable n ≡ true → ⊥) → (n ≡ 0) ⊎ (128 < n)
-unmarkable n lacks = grind (arith, nat_tests)
-
 -- a mark
 pub stands_inside : (m : Marks) (n : ℕ) → (n ≡ 0 → ⊥) → n ≤ 128 → standing m n ≡ get_or m.on (n - 1) false
 unfolding standing
 stands_inside m n some within = grind (arith, nat_tests)
+
+-- the row of the marks, as long as it is
+pub row-stands : (m : Marks) (n : ℕ) → length m.on ≡ 128 → stands_in m.on n ≡ standing m n
+unfolding standing
+row-stands m n long = grind (arith, nat_tests, get_or_past)
 
 -- a state by its numbers inside and outside the marks
 by_mark : (s t : State) → ((n : ℕ) → (n ≡ 0) ⊎ (128 < n) → s n ≡ t n) → ((n : ℕ) → (n ≡ 0 → ⊥) → n ≤ 128 → s n ≡ t n) → s ≡ t
@@ -45,16 +43,6 @@ turned-mark m after n some within long is = by_mark (standing after) (turned (st
 
     inside : (k : ℕ) → (k ≡ 0 → ⊥) → k ≤ 128 → standing after k ≡ turned (standing m) n k
     inside k given low = let a = stands_inside after k given low in let b = stands_inside m k given low in let c = stands_inside m n some within in grind (arith, nat_tests, common_steps)
-
--- a row by its marks
-pub row_filled : (m : Marks) (row : List Bool) → length row ≡ 128 → ((k : ℕ) → k < 128 → get_or row k false ≡ standing m (k + 1)) → stands_in row ≡ standing m
-row_filled m row long filled = by_mark (stands_in row) (standing m) out inside
-  where
-    out : (n : ℕ) → (n ≡ 0) ⊎ (128 < n) → stands_in row n ≡ standing m n
-    out n o = let a = stands_outside m n o in grind (arith, nat_tests, get_or_past)
-
-    inside : (n : ℕ) → (n ≡ 0 → ⊥) → n ≤ 128 → stands_in row n ≡ standing m n
-    inside n some within = let at = filled (n - 1) (omega arith) in grind (arith, nat_tests)
 
 -- facts moved to where they are to stand, one after the other
 module _ (s t : State) where

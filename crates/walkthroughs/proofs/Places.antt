@@ -5,7 +5,8 @@ use Rattle.formulas.specs.Formulas.Formula.{all}
 use Rattle.formulas.specs.Formulas.Formulas.{none}
 use Rattle.std.proofs.lemmas.List.{get_or_past}
 use Rattle.std.proofs.lemmas.Bool.{cases_lt, or_cases, or_left, or_right, false≢true}
-use Rattle.walkthroughs.specs.Depots.{Depot, Effect, State, Listed, effect_of, move_of, truth_of}
+use Rattle.depots.specs.Tables.{Effect}
+use Rattle.walkthroughs.specs.Depots.{Depot, State, Listed, effect_of, move_of, truth_of}
 use Rattle.walkthroughs.specs.Disturbance.{move_at}
 use Rattle.std.specs.List.{list_any}
 use Rattle.walkthroughs.specs.Firing.{fired, fired_by, fires}

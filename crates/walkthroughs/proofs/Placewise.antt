@@ -1,5 +1,5 @@
 -- A search over the places of a step. Assumes nothing.
-use Rattle.std.proofs.Common.{◌≡◌, ℕ, zero, suc, ◌+◌, ◌<◌, ◌≤◌, Bool, true, false, eqb, List, length, get_or, take, Some, None, Option, sym, ap, ◌∙◌, add-one, arith}
+use Rattle.std.proofs.Common.{◌≡◌, ℕ, zero, suc, ◌+◌, ◌<◌, Bool, true, false, eqb, List, length, get_or, take, Some, None, Option, sym, ap, ◌∙◌, add-one, arith}
 use Rattle.std.proofs.lemmas.Bool.{both_ways}
 use Rattle.std.proofs.lemmas.Bool.Decides.{nat_tests}
 use Rattle.std.proofs.lemmas.Grind.{common_steps}
@@ -35,11 +35,11 @@ module _ (moves : List ℕ) (i : ℕ) (here : i < length moves) where
 
 -- the first such i
 abbrev pub FirstRepeated : List ℕ → Option ℕ → Type 0
-FirstRepeated moves r = MatchOption r ((i : ℕ) → 0 ≤ i → i < length moves → repeats moves i ≡ false) (λ i. (0 ≤ i) × (i < length moves) × (repeats moves i ≡ true) × ((j : ℕ) → 0 ≤ j → j < i → repeats moves j ≡ false))
+FirstRepeated moves r = MatchOption r ((i : ℕ) → i < length moves → false ≡ repeats moves i) (λ i. (i < length moves) × (true ≡ repeats moves i) × ((j : ℕ) → j < i → false ≡ repeats moves j))
 
 pub repeated_first : (moves : List ℕ) (r : Option ℕ) → FirstRepeated moves r → LowestBy one (RepeatedAt moves) (option_map (λ i. i + 1) r)
 repeated_first moves r first = place_first (RepeatedAt moves) (length moves) (λ p so. so.0) r (by_place r first)
   where
-    by_place : (r : Option ℕ) → FirstRepeated moves r → MatchOption r ((i : ℕ) → 0 ≤ i → i < length moves → RepeatedAt moves (i + 1) → ⊥) (λ i. (0 ≤ i) × (i < length moves) × RepeatedAt moves (i + 1) × ((j : ℕ) → 0 ≤ j → j < i → RepeatedAt moves (j + 1) → ⊥))
-    by_place None none = λ i from below. is-new moves i below (none i from below)
-    by_place (Some i) found = (found.0, found.1, is-repeated moves i found.1 found.2, λ j from below. is-new moves j (omega (arith, found.1)) (found.3 j from below))
+    by_place : (r : Option ℕ) → FirstRepeated moves r → MatchOption r ((i : ℕ) → i < length moves → RepeatedAt moves (i + 1) → ⊥) (λ i. (i < length moves) × RepeatedAt moves (i + 1) × ((j : ℕ) → j < i → RepeatedAt moves (j + 1) → ⊥))
+    by_place None none = λ i below. is-new moves i below (sym (none i below))
+    by_place (Some i) found = (found.0, is-repeated moves i found.0 (sym found.1), λ j below. is-new moves j (omega (arith, found.0)) (sym (found.2 j below)))

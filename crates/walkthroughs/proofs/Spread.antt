@@ -9,7 +9,7 @@ use Rattle.std.proofs.lemmas.Bool.Decides.{nat_tests}
 use Rattle.std.proofs.lemmas.Grind.{common_steps}
 use Rattle.facts.specs.Listed.{also_marked}
 use Rattle.formulas.specs.Truth.{stands_in}
-use Rattle.depots.specs.Moves.{entry_at}
+use Rattle.sheets.specs.Numbered.{entry_at}
 use Rattle.walkthroughs.specs.Kinds.{between, carries_among, listed_fact}
 
 -- a test of a fact, if it is there

@@ -1,10 +1,35 @@
 -- Sets of places by number, and the moves at them. Assumes nothing.
-use Rattle.std.proofs.Common.{◌≡◌, ℕ, zero, suc, ◌+◌, ◌-◌, ◌*◌, ◌/◌, ◌%◌, ◌^◌, ◌<◌, ◌≤◌, false, cond, eqb, ◌⊎◌, List, [], ◌∷◌, length, get_or, sym, refl, ap, ◌∙◌, inl, inr, pow-suc, arith, pow_pos}
-use Rattle.std.proofs.lemmas.Bool.{cases_Bool, cases_lt, eqb-true, eqb-false, eq-eqb, ne_eqb}
+use Rattle.std.proofs.Common.{◌≡◌, ℕ, zero, suc, ◌+◌, ◌-◌, ◌*◌, ◌/◌, ◌%◌, ◌^◌, ◌<◌, ◌≤◌, Bool, true, false, cond, eqb, ltb, Result, Ok, Err, MatchResult, OkIff, ◌⊎◌, List, [], ◌∷◌, length, get_or, sym, refl, ap, ◌∙◌, inl, inr, add-one, pow-suc, arith, pow_pos}
+use Rattle.std.proofs.Math.Nat.{div-div-eq-div-mul, div-eq_of_lt, div-one, pow-le-pow_right}
+use Rattle.std.proofs.lemmas.Bool.{cases_Bool, cases_lt, ltb-false, eqb-true, eqb-false, eq-eqb, ne_eqb}
 use Rattle.walkthroughs.specs.Laws.{SetsAreSums}
 use Rattle.walkthroughs.specs.Lists.{one, times, SameMoves, Within}
 use Rattle.walkthroughs.specs.Sets.{digit, chosen, weight_of}
 use Rattle.walkthroughs.proofs.Counts.{one-is, one-cases, take_out}
+
+-- how many are left of a set after its first places, and after one place more
+pub halved : (n k : ℕ) → n / 2 ^ k / 2 ≡ n / 2 ^ (k + 1)
+halved n k = div-div-eq-div-mul n (2 ^ k) 2 ∙ ap (λ m. n / m) (omega (arith, ap (λ j. 2 ^ j) (add-one k), pow-suc 2 k))
+
+-- whether a place is in a set, by the weight of the place
+pub digit-shifted : (n k : ℕ) → digit n k ≡ eqb (n / 2 ^ k % 2) 1
+digit-shifted n zero = ap (λ m. eqb (m % 2) 1) (sym (div-one n))
+digit-shifted n (suc k) = digit-shifted (n / 2) k ∙ ap (λ m. eqb (m % 2) 1) (div-div-eq-div-mul n 2 (2 ^ k) ∙ ap (λ m. n / m) (omega arith))
+
+-- a number has no digit past those that it is written with
+digit-past : (n k : ℕ) → n < 2 ^ 64 → 64 ≤ k → digit n k ≡ false
+digit-past n k small past =
+    let powers : 2 ^ 64 ≤ 2 ^ k = pow-le-pow_right (omega arith) past in
+    digit-shifted n k ∙ ap (λ m. eqb (m % 2) 1) (div-eq_of_lt (omega (arith, small, powers)))
+
+-- a digit by a shift, and none where the shift is too long to be told
+pub digit-read : {E : Type 0} {Told : ℕ → Type 0} (n k : ℕ) (r : Result ℕ E) (told : Bool) → n < 2 ^ 64 → OkIff r (k < 2 ^ 32) k → MatchResult r Told (λ e. told ≡ false) → ((b : ℕ) → Told b → told ≡ eqb (cond (ltb b 64) (n / 2 ^ b) 0 % 2) 1) → told ≡ digit n k
+digit-read n k (Ok b) told small is given shifts = shifts b given ∙ by_test (ltb b 64) refl ∙ ap (digit n) is.1
+  where
+    by_test : (t : Bool) → ltb b 64 ≡ t → eqb (cond t (n / 2 ^ b) 0 % 2) 1 ≡ digit n b
+    by_test true within = sym (digit-shifted n b)
+    by_test false past = sym (digit-past n b small (ltb-false b 64 past))
+digit-read n k (Err e) told small past none shifts = none ∙ sym (digit-past n k small (elim (cases_lt k 64) [ inl l ↦ absurd (past (omega arith)) | inr l ↦ l ]))
 
 -- a set with its first place, and one without it
 chosen-with : (n m : ℕ) (ms : List ℕ) → n % 2 ≡ 1 → chosen n (m ∷ ms) ≡ m ∷ chosen (n / 2) ms

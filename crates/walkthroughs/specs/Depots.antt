@@ -1,17 +1,12 @@
 -- A depot over numbers: facts, moves and formulas, each counted from 1. Assumes nothing.
 use Rattle.std.specs.Prelude.{◌≡◌, ℕ, zero, suc, ◌<◌, ◌≤◌, Bool, true, List, [], ◌∷◌, slice_index_or}
+use Rattle.depots.specs.Tables.{Effect}
 use Rattle.formulas.specs.Formulas.{Formula, holds}
 use Rattle.formulas.specs.Formulas.Formula.{all}
 use Rattle.formulas.specs.Formulas.Formulas.{none}
 
--- An effect of a move (a conditional effect): under a condition, told by its formula number, it strikes facts and sets
--- facts.
-pub record Effect : Type 0 where
-  pub condition : ℕ
-  pub settings : List ℕ
-  pub strikes : List ℕ
-
--- A move (an action): its need (precondition), told by its formula number, and its effects.
+-- A move (an action): its need (precondition), told by its formula number, and its effects, which are as the tables of a
+-- sheet have them.
 pub record Move : Type 0 where
   pub need : ℕ
   pub effects : List Effect

@@ -1,7 +1,8 @@
 -- What moves do together, judged at one state. Assumes nothing.
 use Rattle.std.specs.Prelude.{◌≡◌, ℕ, Bool, true, cond, not, ◌&&◌, ◌||◌, List, [], ◌∷◌}
 use Rattle.std.specs.List.{flat_map, list_any}
-use Rattle.walkthroughs.specs.Depots.{Depot, Effect, State, effect_of, move_of, truth_of}
+use Rattle.depots.specs.Tables.{Effect}
+use Rattle.walkthroughs.specs.Depots.{Depot, State, effect_of, move_of, truth_of}
 
 -- Some entry of a list passes a test.
 abbrev pub any : {X : Type 0} → (X → Bool) → List X → Bool

@@ -13,3 +13,7 @@ depot_of {kind = kind} m = ruled kind.carrying (tables_of m.depot.now)
 -- Which facts stand.
 abbrev pub state_of : {K F : Type 0} {kind : Ghosts K F} → Moment K F kind → State
 state_of m = stands_in m.row.now
+
+-- What the rules say of its depot and of which facts stand.
+abbrev pub at {ℓ} : {K F : Type 0} {kind : Ghosts K F} {X : Type ℓ} → Moment K F kind → (Depot → State → X) → X
+at m says = says (depot_of m) (state_of m)

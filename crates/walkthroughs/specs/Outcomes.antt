@@ -1,8 +1,9 @@
 -- What one move of a step does, judged at the start. Assumes nothing.
 use Rattle.std.specs.Prelude.{◌≡◌, ℕ, ◌/◌, ◌%◌, Bool, cond, not, ◌&&◌, ◌||◌, List, [], ◌∷◌, ◌==◌}
+use Rattle.depots.specs.Tables.{Effect}
 use Rattle.formulas.specs.Truth.{stands_in}
 use Rattle.walkthroughs.specs.declared.firing.Outcome.{Outcome}
-use Rattle.walkthroughs.specs.Depots.{Depot, Effect, State}
+use Rattle.walkthroughs.specs.Depots.{Depot, State}
 use Rattle.walkthroughs.specs.Firing.{any, fires, fired_by}
 
 -- The rows say which facts the fired effects of a move add, and which they remove.

@@ -1,10 +1,10 @@
 -- The lowest of what is looked for. Assumes nothing.
-use Rattle.std.specs.Prelude.{◌≡◌, ℕ, List, [], ◌∷◌, Some, None, Option}
+use Rattle.std.specs.Prelude.{◌≡◌, ℕ, false, List, [], ◌∷◌, Some, None, Option}
 use Rattle.sheets.specs.Faults.{NoLater}
 use Rattle.walkthroughs.specs.Depots.{Depot, State}
-use Rattle.walkthroughs.specs.Disturbance.{OtherAt}
+use Rattle.walkthroughs.specs.Disturbance.{OtherAt, Otherwise}
 use Rattle.walkthroughs.specs.Firing.{after}
-use Rattle.walkthroughs.specs.Sets.{chosen}
+use Rattle.walkthroughs.specs.Sets.{chosen, in_set}
 use Rattle.walkthroughs.specs.declared.disturbance.Disturbance.{Disturbance}
 
 -- What is found is wanted, and nothing that is wanted has a lower row of numbers; or nothing is wanted.
@@ -28,6 +28,10 @@ four p = p.0 ∷ p.1 ∷ p.2 ∷ p.3 ∷ []
 -- The row of a disturbance: its set, then its place, then its part.
 abbrev pub row_of : Disturbance → List ℕ
 row_of x = three (x.set, x.place, x.part)
+
+-- A disturbance by a set at a place outside it: a part of the move there reads otherwise at t than at s.
+abbrev pub DisturbsAt : Depot → State → State → ℕ → ℕ → ℕ → Disturbance → Type 0
+DisturbsAt d s t set place move x = (x.set ≡ set) × (x.place ≡ place) × (in_set set x.place ≡ false) × Otherwise d s t move x.part
 
 -- A disturbance by a set, whether there are so many sets or not.
 abbrev pub DisturbsBy : Depot → State → List ℕ → ℕ → Disturbance → Type 0

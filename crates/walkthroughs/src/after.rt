@@ -5,6 +5,7 @@ ghost use Rattle.walkthroughs.specs.Outcomes.{Together, left_by, picked};
 
 use crate::firing::Outcome;
 use crate::marks::Row;
+use crate::sets::in_set;
 use std::array;
 
 // The marks of two rows in one.
@@ -19,15 +20,11 @@ fn unite(outcomes: &[Outcome], set: usize) -> Outcome
     ensures { Together (picked set outcomes.now) result }
 {
     let mut all = Outcome::nothing();
-    // The set is halved beside its outcomes, as `picked` is defined; to ask for each place whether it is in the set would
-    // halve it anew each time.
-    let mut rest = set;
-    for outcome in outcomes {
-        if rest % 2 == 1 {
+    for (i, outcome) in outcomes.iter().enumerate() {
+        if in_set(set, i + 1) {
             all.adds = joined(&all.adds, &outcome.adds);
             all.removes = joined(&all.removes, &outcome.removes);
         }
-        rest /= 2;
     }
     all
 }

@@ -1,6 +1,7 @@
-// What is wrong with the moves of a step one by one: the lowest place of each reason.
+// What is wrong with the moves of a step one by one: the lowest place of each reason. Places are counted from 1, so that of
+// a move is one more than the `position` that the library finds.
 ghost use Rattle.std.specs.Prelude.{◌≡◌};
-ghost use Rattle.walkthroughs.specs.Moments.{depot_of, state_of};
+ghost use Rattle.walkthroughs.specs.Moments.{at};
 ghost use Rattle.walkthroughs.specs.Searching.{LowestBy, one};
 ghost use Rattle.walkthroughs.specs.Steps.{FalseAt, RepeatedAt, UnknownAt};
 
@@ -11,24 +12,31 @@ use facts::kinds::Kind;
 pub(crate) fn unknown_move(count: usize, moves: &[usize]) -> Option<usize>
     ensures { LowestBy one (UnknownAt count moves.now) result }
 {
-    let before = moves.iter().position(|&m| m == 0 || m > count)?;
-    Some(before + 1)
+    moves
+        .iter()
+        .position(|m| !(1..=count).contains(m))
+        .map(|before| before + 1)
 }
 
-// The lowest place whose move stands at a place before it too.
+// The lowest place whose move stands at a place before it too. A list of settings asks only whether it has a repeat.
 pub(crate) fn repeated_move(moves: &[usize]) -> Option<usize>
     ensures { LowestBy one (RepeatedAt moves.now) result }
 {
-    let before = (0..moves.len()).find(|&i| moves[..i].contains(&moves[i]))?;
-    Some(before + 1)
+    moves
+        .iter()
+        .enumerate()
+        .position(|(i, m)| moves[..i].contains(m))
+        .map(|before| before + 1)
 }
 
 impl<K: Kind> Moment<'_, K> {
     // The lowest place whose move's need is false.
     pub(crate) fn false_need(&self, moves: &[usize]) -> Option<usize>
-        ensures { LowestBy one (FalseAt (depot_of self.now) (state_of self.now) moves.now) result }
+        ensures { LowestBy one (at self.now FalseAt moves.now) result }
     {
-        let before = moves.iter().position(|&m| !self.part_reads(m, 0))?;
-        Some(before + 1)
+        moves
+            .iter()
+            .position(|&m| !self.part_reads(m, 0))
+            .map(|before| before + 1)
     }
 }

@@ -1,12 +1,11 @@
 // What each move of a step adds and removes, judged once at the step's start.
 ghost use Rattle.std.specs.Prelude.{◌≡◌, ℕ, Bool, ◌||◌, []};
-ghost use Rattle.depots.specs.Tables.{tables_of};
+ghost use Rattle.depots.specs.Tables.{effect_of, tables_of};
 ghost use Rattle.formulas.specs.Truth.{stands_in};
 ghost use Rattle.walkthroughs.specs.Firing.{any};
 ghost use Rattle.walkthroughs.specs.Kinds.{MarksBy, carries_among};
-ghost use Rattle.walkthroughs.specs.Moments.{depot_of, state_of};
+ghost use Rattle.walkthroughs.specs.Moments.{at};
 ghost use Rattle.walkthroughs.specs.Outcomes.{IsOutcome, Together, WithEffect};
-ghost use Rattle.walkthroughs.specs.Ruled.{effect_kept};
 
 use crate::marks::{MOST_MARKS, Row};
 use crate::moment::Moment;
@@ -40,6 +39,8 @@ impl<K: Kind> Moment<'_, K> {
         requires { M.IsAlwaysCallable mark }
         ensures { (by : K.Fact → K.Fact → Bool) → MarksBy by (tables_of self.now.depot.now).facts (λ fact marks after. M.post mark fact marks tt after) → (f : ℕ) → stands_in row.new f ≡ (stands_in row.old f || any (λ g. carries_among by (tables_of self.now.depot.now).facts g f) numbers.now) }
     {
+        // Not over `filter_map`: of such a loop, in a function with a type parameter, the check refuses a module that it made
+        // itself.
         for number in numbers {
             if let Some(fact) = self.depot.fact_at(*number) {
                 mark(fact, row);
@@ -49,7 +50,7 @@ impl<K: Kind> Moment<'_, K> {
 
     // Adds what an effect does, if it fires.
     fn fire_effect(&self, effect: &Effect, outcome: &mut Outcome)
-        ensures { WithEffect (depot_of self.now) (state_of self.now) (effect_kept effect.now) outcome.old outcome.new }
+        ensures { at self.now WithEffect (effect_of effect.now) outcome.old outcome.new }
     {
         if !self.is_true(effect.condition()) {
             return;
@@ -69,7 +70,7 @@ impl<K: Kind> Moment<'_, K> {
 
     // What the fired effects of a move do.
     pub(crate) fn fire(&self, number: usize) -> Outcome
-        ensures { IsOutcome (depot_of self.now) (state_of self.now) number result }
+        ensures { at self.now IsOutcome number result }
     {
         let mut outcome = Outcome::nothing();
         for effect in self.depot.effects_of(number) {

@@ -11,4 +11,5 @@ pub mod marks;
 mod moment;
 mod parts;
 mod rows;
+mod sets;
 pub mod worked;

@@ -1,10 +1,13 @@
 // Which of 128 facts stand. What is promised of marks is `standing` alone, so that their inside can change.
-ghost use Rattle.std.specs.Prelude.{◌≡◌, ◌-◌, IsTrue};
-ghost use Rattle.std.specs.Option.{SomeIff};
-ghost use Rattle.walkthroughs.specs.Marks.{is_markable, none_stand, standing, turned};
+ghost use Rattle.std.specs.Prelude.{◌≡◌};
+ghost use Rattle.formulas.specs.Truth.{stands_in};
+ghost use Rattle.walkthroughs.specs.Marks.{none_stand, standing, turned};
 
-// How many facts marks can have.
-pub const MOST_MARKS: usize = 128;
+use depots::entries::MOST_FACTS;
+use formulas::truth::stands;
+
+// How many facts marks can have: all that a sheet may list.
+pub const MOST_MARKS: usize = MOST_FACTS;
 
 // Which facts stand, as marks: the one at index f - 1 is that of fact f.
 pub(crate) type Row = [bool; MOST_MARKS];
@@ -14,13 +17,6 @@ pub(crate) type Row = [bool; MOST_MARKS];
 #[derive(Drop)]
 pub struct Marks {
     on: Row,
-}
-
-// The index of the mark of a number, counted from 1, if it has one.
-fn index_of(number: usize) -> Option<usize>
-    ensures { SomeIff result (IsTrue (is_markable number)) (number - 1) }
-{
-    number.checked_sub(1).filter(|i| *i < MOST_MARKS)
 }
 
 impl Marks {
@@ -37,17 +33,24 @@ impl Marks {
     pub fn stands(&self, number: usize) -> bool
         ensures { result ≡ standing self.now number }
     {
-        match index_of(number) {
-            Some(i) => self.on[i],
-            None => false,
-        }
+        stands(&self.on, number)
+    }
+
+    // Which facts stand, as a row.
+    pub(crate) fn row(&self) -> Row
+        ensures { stands_in result ≡ standing self.now }
+    {
+        self.on
     }
 
     // Turns the standing of one fact round. A number outside 1 to 128 turns nothing.
     pub fn turn(&mut self, number: usize)
         ensures { standing self.new ≡ turned (standing self.old) number }
     {
-        if let Some(i) = index_of(number) {
+        // No `get_mut`, since of a slice that was written through it a proof knows no element.
+        if let Some(i) = number.checked_sub(1)
+            && i < MOST_MARKS
+        {
             self.on[i] = !self.on[i];
         }
     }

@@ -1,12 +1,8 @@
-use Rattle.std.proofs.Common.{◌≡◌, false, rules}
-use Rattle.facts.specs.Listed.{number_of_text}
-use Rattle.formulas.specs.Resolving.{each_passes, has_form}
+use Rattle.facts.specs.Numbering.{number_under}
 use Rattle.formulas.specs.Shapes.{texted}
-use Rattle.depots.proofs.Formulaic.{of-every}
+use Rattle.depots.proofs.Formulaic.{fact_wrong}
 use Rattle.depots.proofs.formula_field.formula_field.Goals as goal
 
-pub returns-in-Err-NotItsForm-resolve : goal.returns-in-Err-NotItsForm-resolve
-returns-in-Err-NotItsForm-resolve g c =
-    of-every 8 c.args.text.now (texted c.in-Ok.read)
-    (λ q. each_passes (λ f. has_form (number_of_text g.K.Kind.alike (g.K.Kind.reading c.args.listed.now.names.now) c.args.listed.now.facts.now f)) q ≡ false)
-    c.in-Ok.ensures.answer (search rules)
+pub returns-in-Err-NoFact : goal.returns-in-Err-NoFact
+returns-in-Err-NoFact g c =
+    rw c.into.ensures (fact_wrong (number_under g.K.Kind c.args.listed.now) c.args.text.now (texted c.in-Ok.read) c.in-Ok.ensures.answer c.in-Err-NoFact.why (rw c.in-Err-NoFact.field-0-is at c.in-Err-NoFact.ensures))

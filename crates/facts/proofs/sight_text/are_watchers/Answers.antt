@@ -7,4 +7,4 @@ use Rattle.facts.proofs.sight_text.are_watchers.Goals as goal
 
 pub returns : goal.returns
 returns c =
-    rw c.in-Some.is (all_from_yields_List is_watcher _ _ c.all.result c.all.ensures.ran (YieldsList-from_slice_split _ (λ b. eqb b 46) c.in-Some.text.now c.split.ensures.rest c.split.ensures.done c.split.ensures.closure (λ x b q k. search (rules, tests))) (λ x b q k. search (rules, tests)))
+    all_from_yields_List is_watcher _ _ c.all.result c.all.ensures.ran (YieldsList-from_slice_split _ (λ b. eqb b 46) c.args.text.now c.split.ensures.rest c.split.ensures.done c.split.ensures.closure (λ x b q k. search (rules, tests))) (λ x b q k. search (rules, tests))

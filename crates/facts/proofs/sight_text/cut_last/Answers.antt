@@ -2,8 +2,9 @@ use Rattle.std.proofs.Common.{◌≡◌, ◌∙◌, eqb, ⊎_elim, sym, ap, rule
 use Rattle.std.proofs.lemmas.Bool.{false≢true}
 use Rattle.std.proofs.lemmas.Fn.{always_returns_same}
 use borrow.Author.Tests.{tests}
+use Rattle.sheets.proofs.Cuts.{weaker}
 use Rattle.facts.specs.Parts.{parts_of}
-use Rattle.facts.proofs.Partwise.{halves, weaker}
+use Rattle.facts.proofs.Partwise.{halves}
 use Rattle.facts.proofs.sight_text.cut_last.Goals as goal
 
 pub returns : goal.returns

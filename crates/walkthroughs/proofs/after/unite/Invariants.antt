@@ -3,7 +3,7 @@ use Rattle.formulas.specs.Truth.{stands_in}
 use Rattle.walkthroughs.proofs.Afterwards.{Uniting}
 use Rattle.walkthroughs.proofs.after.unite.Given as goal
 
-abbrev pub invariant-loop-outcome : goal.invariant-loop-outcome
-invariant-loop-outcome l =
-    ((f : ℕ) → Uniting (λ o. stands_in o.adds f) l.outcomes l.set (stands_in l.all.adds f) l.rest l.outcome-index)
-    × ((f : ℕ) → Uniting (λ o. stands_in o.removes f) l.outcomes l.set (stands_in l.all.removes f) l.rest l.outcome-index)
+abbrev pub invariant-loop-i : goal.invariant-loop-i
+invariant-loop-i l =
+    ((f : ℕ) → Uniting (λ o. stands_in o.adds f) l.outcomes l.set (stands_in l.all.adds f) l.i)
+    × ((f : ℕ) → Uniting (λ o. stands_in o.removes f) l.outcomes l.set (stands_in l.all.removes f) l.i)

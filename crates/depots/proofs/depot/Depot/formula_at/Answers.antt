@@ -1,6 +1,6 @@
 use Rattle.std.proofs.Common.{ap, ◌∙◌}
 use Rattle.formulas.specs.Shapes.{numbers}
-use Rattle.depots.specs.Moves.{entry_at}
+use Rattle.sheets.specs.Numbered.{entry_at}
 use Rattle.depots.proofs.Viewed.{entry_shown}
 use Rattle.depots.proofs.depot.Depot.formula_at.Goals as goal
 

@@ -1,11 +1,12 @@
-use Rattle.std.proofs.Common.{map, Some, None, ap, ◌∙◌}
-use Rattle.depots.specs.Moves.{need_of}
+use Rattle.std.proofs.Common.{◌≡◌, rules, ap, ◌∙◌}
+use Rattle.std.specs.Option.{option_map}
+use Rattle.sheets.specs.Numbered.{entry_at}
 use Rattle.depots.specs.Tables.{move_of}
-use Rattle.depots.proofs.Viewed.{need_found}
+use Rattle.depots.proofs.Viewed.{entry_shown}
 use Rattle.depots.proofs.depot.Depot.need_of.Goals as goal
 
-pub returns-in-Some : goal.returns-in-Some
-returns-in-Some g c = need_found c.deref.result.now c.args.number (Some c.in-Some.listed.now) c.in-Some.ensures ∙ ap (λ l. need_of (map move_of l) c.args.number) c.deref.ensures.value
-
-pub returns-in-None : goal.returns-in-None
-returns-in-None g c = need_found c.deref.result.now c.args.number None c.in-None.ensures ∙ ap (λ l. need_of (map move_of l) c.args.number) c.deref.ensures.value
+pub returns : goal.returns
+returns g c =
+    let entry = c.entry_at.ensures ∙ ap (λ l. entry_at l c.args.number) c.deref.ensures.value in
+    let need : c.map.result ≡ option_map (λ v. v.need) (option_map (λ x. move_of x.now) c.entry_at.result) = search rules in
+    need ∙ ap (option_map (λ v. v.need)) (entry_shown (λ x. x.now) move_of c.entry_at.result _ c.args.number entry)

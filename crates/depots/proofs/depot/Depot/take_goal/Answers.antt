@@ -14,6 +14,6 @@ returns g c =
       (
         v,
         subst (AddsFormula (meaning_of g.K.Kind g.K.TextKind.reading_under) (tables_of c.args.self.now) c.args.fields.second.now) (sym c.in_ok-push_formula.ensures) read.1,
-        ap (with_goal v) (count_of numbers c.push_formula.new.self.formulas c.len-self.result c.len-self.ensures),
+        ap (with_goal v) (count_of numbers c.push_formula.new.self.formulas c.len.result c.len.ensures),
       ),
     )
