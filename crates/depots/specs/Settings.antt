@@ -14,6 +14,10 @@ use Rattle.depots.specs.Fields.{among}
 abbrev pub numbers_of : FactList → List ℕ
 numbers_of l = entries_of l.kept
 
+-- How many facts a list has.
+abbrev pub count_of : FactList → ℕ
+count_of l = l.kept.count
+
 -- A list as it was read, or what is wrong with it, is this answer.
 abbrev pub Comes : Result (List ℕ) Trouble → Result FactList Trouble → Type 0
 Comes read (Ok l) = read ≡ Ok (numbers_of l)

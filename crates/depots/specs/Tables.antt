@@ -79,6 +79,10 @@ effect_of e = record { condition = e.condition; settings = numbers_of e.settings
 abbrev pub move_of : NamedMove → Move
 move_of m = record { need = m.numbers.need; effects_before = m.numbers.effects_before }
 
+-- How many places of its table of effects a depot has filled.
+abbrev pub kept_effects : {K F : Type 0} {kind : Ghosts K F} → Depot K F kind → ℕ
+kept_effects d = d.effect_count
+
 -- The tables of a depot.
 abbrev pub tables_of : {K F : Type 0} {kind : Ghosts K F} → Depot K F kind → Tables F
 tables_of d = record {

@@ -1,5 +1,5 @@
 // The table of effect records, lent and filled in place.
-ghost use Rattle.std.specs.Prelude.{◌≡◌, [], ◌∷◌, ◌++◌, take, MatchResult};
+ghost use Rattle.std.specs.Prelude.{◌≡◌, ◌+◌, ◌≤◌, [], ◌∷◌, ◌++◌, length, take, MatchResult};
 
 use crate::depot::Effect;
 use crate::fact_list::FactList;
@@ -29,7 +29,7 @@ pub(crate) fn fill(
     count: usize,
     effect: Effect,
 ) -> Result<usize, AllocError>
-    ensures { MatchResult result (λ n. take n effects.new ≡ take count effects.old ++ effect ∷ []) (λ _. effects.new ≡ effects.old) }
+    ensures { MatchResult result (λ n. (n ≡ count + 1) × (take n effects.new ≡ take count effects.old ++ effect ∷ [])) (λ _. (length effects.old ≤ count) × (effects.new ≡ effects.old)) }
 {
     // No `get_mut`, since of a slice that was written through it a proof knows no element.
     if count >= effects.len() {

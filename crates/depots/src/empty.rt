@@ -1,6 +1,6 @@
 // An empty depot: one that was never filled, or whose sheet was refused.
 ghost use Rattle.std.specs.Prelude.{◌≡◌};
-ghost use Rattle.depots.specs.Tables.{no_tables, tables_of};
+ghost use Rattle.depots.specs.Tables.{kept_effects, no_tables, tables_of};
 
 use crate::depot::Depot;
 use facts::kinds::Kind;
@@ -11,7 +11,7 @@ impl<K: Kind> Depot<K> {
     // A depot with nothing in it.
     pub fn empty(heap: Global) -> Depot<K>
         ensures tables { tables_of result ≡ no_tables }
-        ensures effects { result.effect_count ≡ 0 }
+        ensures effects { kept_effects result ≡ 0 }
     {
         Depot {
             names: Names {

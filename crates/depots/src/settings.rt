@@ -1,7 +1,7 @@
 // How a field of settings or strikes is read.
 ghost use Rattle.std.specs.Prelude.{◌≡◌, ◌≤◌, [], map, length};
 ghost use Rattle.std.specs.List.{list_all};
-ghost use Rattle.depots.specs.Settings.{numbers_of, Comes, repeats, gathered, list_reading};
+ghost use Rattle.depots.specs.Settings.{count_of, numbers_of, Comes, repeats, gathered, list_reading};
 ghost use Rattle.facts.specs.Numbering.{has_form, number_under};
 ghost use Rattle.sheets.specs.Pieces.{pieces};
 
@@ -18,7 +18,7 @@ impl FactList {
     // No fact.
     pub fn none() -> FactList
         ensures numbers { numbers_of result ≡ [] }
-        ensures count { result.kept.count ≡ 0 }
+        ensures count { count_of result ≡ 0 }
     {
         FactList {
             kept: ShortList::none(0),
