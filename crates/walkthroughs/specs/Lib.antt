@@ -1,6 +1,7 @@
 pub mod Depots
 pub mod Disturbance
 pub mod Examples
+pub mod Exchanges
 pub mod Firing
 pub mod Judging
 pub mod Kinds
@@ -16,4 +17,5 @@ pub mod Searching
 pub mod Sets
 pub mod Steps
 pub mod Unpickings
+pub mod Walkthroughs
 pub mod Worked

@@ -1,10 +1,11 @@
 -- The lowest of what is looked for. Assumes nothing.
-use Rattle.std.specs.Prelude.{◌≡◌, ℕ, false, List, [], ◌∷◌, Some, None, Option}
+use Rattle.std.specs.Prelude.{◌≡◌, ℕ, true, false, List, [], ◌∷◌, length, Some, None, Option}
 use Rattle.sheets.specs.Faults.{NoLater}
-use Rattle.walkthroughs.specs.Depots.{Depot, State}
-use Rattle.walkthroughs.specs.Disturbance.{OtherAt, Otherwise}
-use Rattle.walkthroughs.specs.Firing.{after}
+use Rattle.walkthroughs.specs.Depots.{Depot, Listed, State}
+use Rattle.walkthroughs.specs.Disturbance.{OtherAt, Otherwise, move_at}
+use Rattle.walkthroughs.specs.Firing.{after, clash, settings_at, strikes_at}
 use Rattle.walkthroughs.specs.Sets.{chosen, in_set}
+use Rattle.walkthroughs.specs.declared.contradiction.Contradiction.{Contradiction}
 use Rattle.walkthroughs.specs.declared.disturbance.Disturbance.{Disturbance}
 
 -- What is found is wanted, and nothing that is wanted has a lower row of numbers; or nothing is wanted.
@@ -36,3 +37,12 @@ DisturbsAt d s t set place move x = (x.set ≡ set) × (x.place ≡ place) × (i
 -- A disturbance by a set, whether there are so many sets or not.
 abbrev pub DisturbsBy : Depot → State → List ℕ → ℕ → Disturbance → Type 0
 DisturbsBy d s moves set x = (x.set ≡ set) × OtherAt d s (after d s (chosen set moves)) moves set x.place x.part
+
+-- The row of a contradiction: place and effect of the setting, then of the strike.
+abbrev pub row_of_contradiction : Contradiction → List ℕ
+row_of_contradiction x = four (x.setting_place, x.setting_effect, x.strike_place, x.strike_effect)
+
+-- A contradiction of a step: an effect of the move at one place sets a fact that carries one that an effect of the move at a
+-- place strikes, and both fire.
+abbrev pub Contradicts : Depot → State → List ℕ → Contradiction → Type 0
+Contradicts d s moves x = Listed x.setting_place (length moves) × Listed x.strike_place (length moves) × (clash d (settings_at d s (move_at moves x.setting_place) x.setting_effect) (strikes_at d s (move_at moves x.strike_place) x.strike_effect) ≡ true)
