@@ -5,7 +5,7 @@ use mathlib.Core.Bool.{and-true}
 use Rattle.std.specs.List.{flat_map, AllByRecursion, list_any}
 use Rattle.std.proofs.lemmas.Bool.{cases_Bool, or_left, true≢false}
 use Rattle.depots.specs.Tables.{Effect}
-use Rattle.walkthroughs.specs.Depots.{Depot, State, Carrying, move_of, truth_of, reads}
+use Rattle.walkthroughs.specs.Depots.{Depot, State, Carrying, Listed, move_of, truth_of, reads}
 use Rattle.walkthroughs.specs.Firing.{fires, fired_by, fired, adds, removes, after, clash, contradictory, one_by_one, Closed, start_of}
 use Rattle.walkthroughs.specs.Laws.{EffectsTakePlace, GroupsJoin, UnlistedStay}
 use Rattle.walkthroughs.specs.Lists.{SameMoves, Within, times}
@@ -105,24 +105,18 @@ pub closed-start : (d : Depot) → Carrying d → Closed d (start_of d)
 closed-start d law f g stands carried = any-weaker (λ h. d.carries h f) (λ h. d.carries h g) (λ h k. law.onward h f g k carried) d.started stands
 
 -- facts that are not listed stay as they are
+-- no entry passes a test that none can pass
+pub never : (p : ℕ → Bool) (xs : List ℕ) → ((x : ℕ) → p x ≡ true → ⊥) → list_any p xs ≡ false
+never p xs none = elim (cases_Bool (list_any p xs)) [ inr k ↦ k | inl k ↦ absurd (true≢false (sym (any-weaker p (λ x. false) (λ x h. absurd (none x h)) xs k) ∙ any_false xs)) ]
+  where
+    any_false : (xs : List ℕ) → list_any (λ x. false) xs ≡ false
+    any_false [] = refl
+    any_false (x ∷ xs) = any_false xs
+
+-- a fact that is not listed does not stand at the start, and moves leave it as it was
+pub unlisted-start : (d : Depot) → Carrying d → (f : ℕ) → (Listed f d.facts → ⊥) → start_of d f ≡ false
+unlisted-start d law f unlisted = never (λ g. d.carries g f) d.started (λ g k. unlisted (law.listed g f k).1)
+
 pub unlisted-stay : UnlistedStay
 unfolding after
 unlisted-stay d law s moves f unlisted = rw (never (λ g. d.carries g f) (fired d s (λ e. e.settings) moves) (λ g k. unlisted (law.listed g f k).1), never (λ g. d.carries f g) (fired d s (λ e. e.strikes) moves) (λ g k. unlisted (law.listed f g k).0)) (and-true (s f))
-  where
-    never : (p : ℕ → Bool) (xs : List ℕ) → ((x : ℕ) → p x ≡ true → ⊥) → list_any p xs ≡ false
-    never p xs none = elim (cases_Bool (list_any p xs)) [ inr k ↦ k | inl k ↦ absurd (true≢false (sym (any-weaker p (λ x. false) (λ x h. absurd (none x h)) xs k) ∙ any_false xs)) ]
-      where
-        any_false : (xs : List ℕ) → list_any (λ x. false) xs ≡ false
-        any_false [] = refl
-        any_false (x ∷ xs) = any_false xs
-
--- started facts stand, set facts stand and struck facts go, since each fact carries itself
-pub effects_take_place : EffectsTakePlace
-unfolding after
-effects_take_place d law = record { start = λ f l there. any_at (λ g. d.carries g f) f d.started (law.itself f l) there; setting = λ s moves f l there. or_left (adds d s moves f) (s f && not (removes d s moves f)) (any_at (λ g. d.carries g f) f (fired d s (λ e. e.settings) moves) (law.itself f l) there); strike = λ s moves f l agreed there. gone (adds d s moves f) (s f) (removes d s moves f) (unset s moves f agreed there) (any_at (λ g. d.carries f g) f (fired d s (λ e. e.strikes) moves) (law.itself f l) there) }
-  where
-    gone : (a st r : Bool) → (a ≡ true → ⊥) → r ≡ true → (a || (st && not r)) ≡ false
-    gone a st r never struck = grind arith
-
-    unset : (s : State) (moves : List ℕ) (f : ℕ) → contradictory d s moves ≡ false → 0 < times f (fired d s (λ e. e.strikes) moves) → adds d s moves f ≡ true → ⊥
-    unset s moves f agreed there set = true≢false (sym (any-weaker (λ g. d.carries g f) (λ g. list_any (λ h. d.carries g h) (fired d s (λ e. e.strikes) moves)) (λ g k. any_at (λ h. d.carries g h) f (fired d s (λ e. e.strikes) moves) k there) (fired d s (λ e. e.settings) moves) set) ∙ agreed)

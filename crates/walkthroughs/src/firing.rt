@@ -7,6 +7,7 @@ ghost use Rattle.walkthroughs.specs.Kinds.{MarksBy, carries_among};
 ghost use Rattle.walkthroughs.specs.Moments.{at};
 ghost use Rattle.walkthroughs.specs.Outcomes.{IsOutcome, Together, WithEffect};
 
+use crate::by_number::mark_by;
 use crate::marks::{MOST_MARKS, Row};
 use crate::moment::Moment;
 use depots::depot::Effect;
@@ -34,20 +35,6 @@ impl Outcome {
 }
 
 impl<K: Kind> Moment<'_, K> {
-    // Marks what `mark` marks by each listed fact of some numbers.
-    fn mark_by<M: Fn(&K::Fact, &mut Row)>(&self, numbers: &[usize], mark: M, row: &mut Row)
-        requires { M.IsAlwaysCallable mark }
-        ensures { (by : K.Fact → K.Fact → Bool) → MarksBy by (tables_of self.now.depot.now).facts (λ fact marks after. M.post mark fact marks tt after) → (f : ℕ) → stands_in row.new f ≡ (stands_in row.old f || any (λ g. carries_among by (tables_of self.now.depot.now).facts g f) numbers.now) }
-    {
-        // Not over `filter_map`: of such a loop, in a function with a type parameter, the check refuses a module that it made
-        // itself.
-        for number in numbers {
-            if let Some(fact) = self.depot.fact_at(*number) {
-                mark(fact, row);
-            }
-        }
-    }
-
     // Adds what an effect does, if it fires.
     fn fire_effect(&self, effect: &Effect, outcome: &mut Outcome)
         ensures { at self.now WithEffect (effect_of effect.now) outcome.old outcome.new }
@@ -56,12 +43,14 @@ impl<K: Kind> Moment<'_, K> {
             return;
         }
         let facts = self.depot.facts();
-        self.mark_by(
+        mark_by(
+            self.depot,
             effect.settings(),
             |fact, row| add_carried::<K>(facts, fact, row),
             &mut outcome.adds,
         );
-        self.mark_by(
+        mark_by(
+            self.depot,
             effect.strikes(),
             |fact, row| add_carriers::<K>(facts, fact, row),
             &mut outcome.removes,

@@ -2,6 +2,7 @@
 #![tactic(auto)]
 
 mod after;
+mod by_number;
 pub mod calls;
 mod contradiction;
 mod disturbance;

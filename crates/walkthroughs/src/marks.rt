@@ -12,6 +12,13 @@ pub const MOST_MARKS: usize = MOST_FACTS;
 // Which facts stand, as marks: the one at index f - 1 is that of fact f.
 pub(crate) type Row = [bool; MOST_MARKS];
 
+// A row without a mark.
+pub(crate) fn unmarked() -> Row
+    ensures { stands_in result ≡ none_stand }
+{
+    [false; MOST_MARKS]
+}
+
 // Which facts stand, by number. They are seen by `standing` and not by a model: the value of a model needs a code, and which
 // facts stand, a function, has one only by a proof that is longer than all that is promised here.
 #[derive(Drop)]

@@ -36,8 +36,9 @@ pub fn run<K: Kind>(depot: &Depot<K>, exchanges: &mut [Exchange]) -> Result<Walk
     ensures { MatchResult result (λ w. (is_none (tables_of depot.now).goal ≡ false) × Lawful (ruled K.carrying (tables_of depot.now)) exchanges.old exchanges.new (held w)) (λ f. (is_none (tables_of depot.now).goal ≡ true) × (f ≡ unplaced NoGoal) × (exchanges.new ≡ exchanges.old)) }
 {
     let mut walkthrough = Walkthrough::make(depot)?;
-    for exchange in exchanges {
-        exchange.answer = Some(walkthrough.answer(depot, &exchange.call));
+    for i in 0..exchanges.len() {
+        let call = exchanges[i].call;
+        exchanges[i].answer = Some(walkthrough.answer(depot, &call));
     }
     Ok(walkthrough)
 }

@@ -2,12 +2,12 @@ use Rattle.std.proofs.Common.{◌≤◌, ◌∙◌, length, rules, arith}
 use Rattle.std.proofs.lemmas.Grind.{common_steps}
 use Rattle.depots.specs.Tables.{tables_of}
 use Rattle.walkthroughs.proofs.Spread.{entry_listed, marked_by, unlisted_by}
-use Rattle.walkthroughs.proofs.moment.Moment.mark_by.Goals as goal
-use Rattle.walkthroughs.proofs.moment.Moment.mark_by.Goals.{in-Some, in_default}
+use Rattle.walkthroughs.proofs.by_number.mark_by.Goals as goal
+use Rattle.walkthroughs.proofs.by_number.mark_by.Goals.{in-Some, in_default}
 
 pub loop-number-preserved : goal.loop-number-preserved
 loop-number-preserved g c =
-    let facts = (tables_of c.args.self.now.depot.now).facts in
+    let facts = (tables_of c.args.depot.now).facts in
     let few : length facts ≤ 128 = search rules in
     elim c.match-fact_at.branch [
       | in-Some w ↦ rw w.row-is (
