@@ -120,3 +120,14 @@ unlisted-start d law f unlisted = never (λ g. d.carries g f) d.started (λ g k.
 pub unlisted-stay : UnlistedStay
 unfolding after
 unlisted-stay d law s moves f unlisted = rw (never (λ g. d.carries g f) (fired d s (λ e. e.settings) moves) (λ g k. unlisted (law.listed g f k).1), never (λ g. d.carries f g) (fired d s (λ e. e.strikes) moves) (λ g k. unlisted (law.listed f g k).0)) (and-true (s f))
+
+-- started facts stand, set facts stand and struck facts go, since each fact carries itself
+pub effects_take_place : EffectsTakePlace
+unfolding after
+effects_take_place d law = record { start = λ f l there. any_at (λ g. d.carries g f) f d.started (law.itself f l) there; setting = λ s moves f l there. or_left (adds d s moves f) (s f && not (removes d s moves f)) (any_at (λ g. d.carries g f) f (fired d s (λ e. e.settings) moves) (law.itself f l) there); strike = λ s moves f l agreed there. gone (adds d s moves f) (s f) (removes d s moves f) (unset s moves f agreed there) (any_at (λ g. d.carries f g) f (fired d s (λ e. e.strikes) moves) (law.itself f l) there) }
+  where
+    gone : (a st r : Bool) → (a ≡ true → ⊥) → r ≡ true → (a || (st && not r)) ≡ false
+    gone a st r never struck = grind arith
+
+    unset : (s : State) (moves : List ℕ) (f : ℕ) → contradictory d s moves ≡ false → 0 < times f (fired d s (λ e. e.strikes) moves) → adds d s moves f ≡ true → ⊥
+    unset s moves f agreed there set = true≢false (sym (any-weaker (λ g. d.carries g f) (λ g. list_any (λ h. d.carries g h) (fired d s (λ e. e.strikes) moves)) (λ g k. any_at (λ h. d.carries g h) f (fired d s (λ e. e.strikes) moves) k there) (fired d s (λ e. e.settings) moves) set) ∙ agreed)

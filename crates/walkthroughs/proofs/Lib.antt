@@ -3,6 +3,7 @@ pub mod Among
 pub mod Calling
 pub mod Counts
 pub mod Disturbing
+pub mod Exchanging
 pub mod Faulty
 pub mod Fires
 pub mod Firings
