@@ -7,6 +7,7 @@ use Rattle.walkthroughs.specs.Depots.{Carrying, Depot, Listed, State}
 use Rattle.walkthroughs.specs.Firing.{after, start_of}
 use Rattle.walkthroughs.specs.Marks.{moved_to, none_stand}
 use Rattle.walkthroughs.specs.Ruled.{ruled}
+use Rattle.walkthroughs.specs.Steps.{Accepted, changed}
 use Rattle.walkthroughs.proofs.Among.{carrying_among}
 use Rattle.walkthroughs.proofs.Firings.{unlisted-start, unlisted-stay}
 
@@ -33,6 +34,9 @@ module _ {F : Type 0} (carries : F → F → Bool) (itself : (a : F) → carries
   pub at_start : (k : ℕ) (s u v : State) → k ≡ length t.facts → s ≡ none_stand → u ≡ start_of d → v ≡ moved_to k s u → v ≡ start_of d
   at_start k s u v count none start moved = moved ∙ rw (count, none, start) (moved_all (length t.facts) none_stand (start_of d) (unlisted-start d law))
 
-  -- marks turned to the facts after a step
-  pub after_step : (k : ℕ) (s u v : State) (moves : List ℕ) → k ≡ length t.facts → u ≡ after d s moves → v ≡ moved_to k s u → v ≡ after d s moves
-  after_step k s u v moves count stepped moved = moved ∙ rw (count, stepped) (moved_all (length t.facts) s (after d s moves) (unlisted-stay d law s moves))
+  -- marks turned to the facts after an accepted step, which was judged at their row
+  pub stepped : (s u old new : State) (k n : ℕ) (moves : List ℕ) → s ≡ old → Accepted d s moves × (u ≡ after d s moves) → k ≡ length t.facts → (new ≡ moved_to k old u) × (n ≡ changed k old u) → Accepted d old moves × (n ≡ changed d.facts old (after d old moves)) × (new ≡ after d old moves)
+  stepped s u old new k n moves same judged count turned = by_row (subst (λ s. Accepted d s moves × (u ≡ after d s moves)) same judged)
+    where
+      by_row : Accepted d old moves × (u ≡ after d old moves) → Accepted d old moves × (n ≡ changed d.facts old (after d old moves)) × (new ≡ after d old moves)
+      by_row (can, is) = (can, turned.1 ∙ ap (λ k. changed k old u) count ∙ ap (changed (length t.facts) old) is, turned.0 ∙ rw (count, is) (moved_all (length t.facts) old (after d old moves) (unlisted-stay d law old moves)))

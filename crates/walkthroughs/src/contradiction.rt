@@ -20,7 +20,11 @@ pub(crate) struct Contradiction {
 
 impl<K: Kind> Moment<'_, K> {
     // The lowest contradiction of a step.
-    pub(crate) fn contradiction(&self, moves: &[usize], outcomes: &[Outcome]) -> Option<Contradiction>
+    pub(crate) fn contradiction(
+        &self,
+        moves: &[usize],
+        outcomes: &[Outcome],
+    ) -> Option<Contradiction>
         requires { at self.now AreOutcomes moves.now outcomes.now }
         ensures { LowestBy row_of_contradiction (at self.now Contradicts moves.now) result }
     {
