@@ -9,6 +9,7 @@ ghost use Rattle.depots.specs.Tables.{effect_of, tables_of};
 use crate::depot::{Depot, Effect};
 use facts::kinds::Kind;
 use formulas::tree::Formula;
+use sheets::listed::Name;
 use sheets::numbered::entry_at;
 
 impl<K: Kind> Depot<K> {
@@ -17,6 +18,13 @@ impl<K: Kind> Depot<K> {
         ensures { result ≡ is_none (tables_of self.now).goal }
     {
         self.goal.is_none()
+    }
+
+    // The formula number of the goal, if the depot has one: an empty one has none.
+    pub fn goal(&self) -> Option<usize>
+        ensures { result ≡ (tables_of self.now).goal }
+    {
+        self.goal
     }
 
     // The listed facts.
@@ -31,6 +39,13 @@ impl<K: Kind> Depot<K> {
         ensures { option_map (λ x. x.now) result ≡ entry_at (tables_of self.now).facts number }
     {
         entry_at(&self.facts, number)
+    }
+
+    // The facts' texts, in the order of the facts.
+    pub fn texts(&self) -> &[Name]
+        ensures { result.now ≡ (tables_of self.now).texts }
+    {
+        &self.texts
     }
 
     // The numbers of the started facts.

@@ -1,6 +1,8 @@
 // What the checker prints.
 #![tactic(auto)]
 
+pub mod accepted;
+pub mod check;
 pub mod depot_report;
 pub mod layout_report;
 pub mod refused;
