@@ -1,4 +1,3 @@
 pub mod DepotReport
-pub mod Layout
 pub mod Refused
 pub mod Written

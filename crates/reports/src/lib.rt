@@ -2,5 +2,4 @@
 #![tactic(auto)]
 
 pub mod depot_report;
-pub mod layout_report;
 pub mod refused;
