@@ -14,8 +14,9 @@ use Rattle.sheets.proofs.LaidOut.{above_of-push}
 use Rattle.sheets.proofs.Passed as passed
 use Rattle.sheets.proofs.Passed.{Passed, line_told, one_more, passed-on, whole}
 use Rattle.depots.specs.Kinds.{Meaning}
-use Rattle.depots.specs.Spelling.{Adds, DepotRead, DepotTold, Placed, Spelled, Wrong, WrongUnder, fields_on}
+use Rattle.depots.specs.Spelling.{Adds, DepotRead, DepotTold, Spelled, Wrong, WrongUnder, fields_on}
 use Rattle.depots.specs.Tables.{Tables, no_tables}
+use Rattle.depots.specs.Troubles.{Placed}
 use Rattle.depots.specs.Wrong.{LineWrong}
 use Rattle.depots.proofs.Added.{late, spelled-one, spelled-push}
 
@@ -48,7 +49,7 @@ module _ {F : Type 0} (m : Meaning F) (s : List ℕ) where
         spelled = subst (λ ls. Spelled m ls u) (sym (one_more (Wrong m) s rest n a walked.passed l below next)) (spelled-push m no_tables (take n (lines_of s)) t l k u walked.spelled added.0 added.2);
       }
 
-      pub stopped : (w : Refusal) (f : Fault) → length s ≤ depot_limit → (w ≡ NoMemory) ⊎ Lowest (WrongUnder m t a l) w → Placed (n + 1) w f → DepotTold m s f
+      pub stopped : (w : Refusal) (f : Fault) → length s ≤ depot_limit → (w ≡ NoMemory) ⊎ Lowest (WrongUnder m t a l) w → Placed Depot (n + 1) w f → DepotTold m s f
       stopped w f few told (inl memory) = inl (memory.1, memory.2, memory.3)
       stopped w f few (inr low) (inr at) =
           inr (line_told (Wrong m) (late m) s few rest n a walked.passed l below next f w (record { holds = wrong w low.holds; first = λ v e. low.first v (under v e) }) at.1 at.2 at.3)

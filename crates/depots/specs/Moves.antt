@@ -1,8 +1,14 @@
--- Which effects are a move's, and which formula is its need. Assumes nothing.
+-- Which move has a name, which effects are a move's, and which formula is its need. Assumes nothing.
 use Rattle.std.specs.Prelude.{ℕ, zero, suc, ◌-◌, List, [], ◌∷◌, take, drop, Option}
 use Rattle.std.specs.Option.{option_map, option_map_or}
+use Rattle.std.specs.Str.{bytes_eq}
+use Rattle.sheets.specs.Listed.{first_from}
 use Rattle.sheets.specs.Numbered.{entry_at}
 use Rattle.depots.specs.Tables.{Effect, Move}
+
+-- The number of the first of the listed names that is a text, counted from 1, if one is.
+abbrev pub move_named : List (List ℕ) → List ℕ → Option ℕ
+move_named names text = first_from (λ name. bytes_eq name text) 1 names
 
 -- The effects of a move that has so many before its own: those up to the next move's, or all that follow.
 abbrev pub own_effects : ℕ → List Move → List Effect → List Effect

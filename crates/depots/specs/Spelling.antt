@@ -1,5 +1,5 @@
 -- How lines spell tables. Assumes nothing.
-use Rattle.std.specs.Prelude.{◌≡◌, ℕ, ◌+◌, ◌⊎◌, List, [], ◌∷◌, ◌++◌, length, Some, None, Ok, Result, MatchResult, ◌≢◌, slice_index_or}
+use Rattle.std.specs.Prelude.{◌≡◌, ℕ, ◌+◌, ◌⊎◌, List, [], ◌∷◌, ◌++◌, length, Some, None, Ok, Result, MatchResult, slice_index_or}
 use Rattle.sheets.specs.declared.faults.Fault.{Fault}
 use Rattle.sheets.specs.declared.faults.Sheet.TheVariants.{Depot}
 use Rattle.sheets.specs.declared.layout.Above.{Above}
@@ -22,10 +22,6 @@ use Rattle.depots.specs.Wrong.{Fields, LineWrong, most_depth, number_among}
 -- The fields of a line after its letter.
 abbrev pub fields_on : Line → Fields
 fields_on l = record { second = slice_index_or (fields l) 1 []; third = slice_index_or (fields l) 2 []; fourth = slice_index_or (fields l) 3 [] }
-
--- A refusal at a line of the depot sheet, as a fault; that memory was wanting speaks of no sheet.
-abbrev pub Placed : ℕ → Refusal → Fault → Type 0
-Placed n w f = ((w ≡ NoMemory) × (f.sheet ≡ None) × (f.line ≡ 0) × (f.refusal ≡ NoMemory)) ⊎ ((w ≢ NoMemory) × (f.sheet ≡ Some Depot) × (f.line ≡ n) × (f.refusal ≡ w))
 
 module _ {F : Type 0} (m : Meaning F) where
   -- A text spells the formula that is listed last in the second tables, which are the first but for it.

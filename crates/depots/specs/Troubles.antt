@@ -1,6 +1,8 @@
 -- What can be wrong with the fields of a line, and which of it is told. Assumes nothing.
-use Rattle.std.specs.Prelude.{◌≡◌, ℕ, ◌+◌, Bool, true, cond, ◌⊎◌, List, [], ◌∷◌, Some, None, Option, nat_le}
+use Rattle.std.specs.Prelude.{◌≡◌, ◌≢◌, ℕ, ◌+◌, Bool, true, cond, ◌⊎◌, List, [], ◌∷◌, Some, None, Option, nat_le}
 use Rattle.std.specs.Option.{option_map}
+use Rattle.sheets.specs.declared.faults.Fault.{Fault}
+use Rattle.sheets.specs.declared.faults.Sheet.{Sheet}
 use Rattle.sheets.specs.declared.refusals.Refusal.{Refusal}
 use Rattle.sheets.specs.declared.refusals.Refusal.TheVariants as told
 use Rattle.sheets.specs.Refusals.{number_of}
@@ -37,3 +39,7 @@ LineFault ts full w = FieldFault 2 ts w ⊎ ((w ≡ told.TableFull) × (full ≡
 -- Nothing is wrong with such a line.
 abbrev pub Faultless : List (Option Trouble) → Bool → Type 0
 Faultless ts full = (w : Refusal) → LineFault ts full w → ⊥
+
+-- A refusal at a line of a sheet, as a fault; that memory was wanting speaks of no sheet.
+abbrev pub Placed : Sheet → ℕ → Refusal → Fault → Type 0
+Placed sheet n w f = ((w ≡ told.NoMemory) × (f.sheet ≡ None) × (f.line ≡ 0) × (f.refusal ≡ told.NoMemory)) ⊎ ((w ≢ told.NoMemory) × (f.sheet ≡ Some sheet) × (f.line ≡ n) × (f.refusal ≡ w))

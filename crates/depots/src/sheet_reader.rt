@@ -1,31 +1,17 @@
 // A depot sheet, read line by line.
 ghost use Rattle.std.specs.Prelude.{◌≡◌, MatchResult};
 ghost use Rattle.depots.specs.Kinds.{meaning_of};
-ghost use Rattle.depots.specs.Spelling.{DepotRead, DepotTold, Placed};
+ghost use Rattle.depots.specs.Spelling.{DepotRead, DepotTold};
 ghost use Rattle.depots.specs.Tables.{no_tables, tables_of};
 
 use crate::depot::{Depot, Effect};
 use crate::effect_table::MOST_EFFECTS;
+use crate::troubles::at_line;
 use facts::text_kinds::TextKind;
 use sheets::faults::{Fault, Sheet};
 use sheets::layout::{Above, judge_limit};
 use sheets::lines::Lines;
-use sheets::refusals::Refusal;
 use std::alloc::{AllocError, Global};
-
-// A refusal with the line at which it is told; that memory was wanting speaks of no sheet.
-fn at_line(line: usize, refusal: Refusal) -> Fault
-    ensures { Placed line refusal result }
-{
-    match refusal {
-        Refusal::NoMemory => Fault {
-            sheet: None,
-            line: 0,
-            refusal,
-        },
-        _ => Fault::on(Sheet::Depot, line, refusal),
-    }
-}
 
 impl<K: TextKind> Depot<K> {
     // Empties the depot and makes room for as many effects as a sheet may have, unless memory is wanting.
@@ -48,7 +34,7 @@ impl<K: TextKind> Depot<K> {
             let number = i + 1;
             let letter = self
                 .read_line(heap, &above, &line)
-                .map_err(|refusal| at_line(number, refusal))?;
+                .map_err(|refusal| at_line(Sheet::Depot, number, refusal))?;
             above = above.below(&line, letter);
         }
         above.judge_end(sheet)
@@ -59,7 +45,8 @@ impl<K: TextKind> Depot<K> {
     pub fn read(&mut self, heap: Global, sheet: &[u8]) -> Result<(), Fault>
         ensures { MatchResult result (λ _. DepotRead (meaning_of K.Kind K.reading_under) sheet.now (tables_of self.new)) (λ f. DepotTold (meaning_of K.Kind K.reading_under) sheet.now f × (tables_of self.new ≡ no_tables)) }
     {
-        self.begin(heap).map_err(|error| at_line(0, error.into()))?;
+        self.begin(heap)
+            .map_err(|error| at_line(Sheet::Depot, 0, error.into()))?;
         let read = self.read_lines(heap, sheet);
         // No `inspect_err`, since no clause says that its closure leaves the depot as it is where no error calls it.
         if read.is_err() {

@@ -2,11 +2,12 @@
 ghost use Rattle.std.specs.Prelude.{◌≡◌, Bool, true, false, [], ◌∷◌, Some, Ok, Err};
 ghost use Rattle.std.specs.Result.{MatchResult, result_err};
 ghost use Rattle.depots.specs.Fields.{as_trouble};
-ghost use Rattle.depots.specs.Troubles.{refusal_at, lower_of, LineFault};
+ghost use Rattle.depots.specs.Troubles.{refusal_at, lower_of, LineFault, Placed};
 ghost use Rattle.sheets.specs.Faults.{Lowest};
 ghost use Rattle.sheets.specs.declared.refusals.Refusal.TheVariants.{TableFull};
 
 use facts::names::NoFact;
+use sheets::faults::{Fault, Sheet};
 use sheets::refusals::Refusal;
 use std::cmp;
 
@@ -87,5 +88,19 @@ pub fn refuse_if_full(full: bool) -> Result<(), Refusal>
         Err(Refusal::TableFull)
     } else {
         Ok(())
+    }
+}
+
+// A refusal with the sheet and the line at which it is told; that memory was wanting speaks of no sheet.
+pub fn at_line(sheet: Sheet, line: usize, refusal: Refusal) -> Fault
+    ensures { Placed sheet line refusal result }
+{
+    match refusal {
+        Refusal::NoMemory => Fault {
+            sheet: None,
+            line: 0,
+            refusal,
+        },
+        _ => Fault::on(sheet, line, refusal),
     }
 }

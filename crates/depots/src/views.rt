@@ -3,7 +3,7 @@ ghost use Rattle.std.specs.Prelude.{◌≡◌, map, length, is_none};
 ghost use Rattle.std.specs.Option.{option_map};
 ghost use Rattle.formulas.specs.Shapes.{numbers};
 ghost use Rattle.sheets.specs.Numbered.{entry_at};
-ghost use Rattle.depots.specs.Moves.{effects_of, end_of, need_of};
+ghost use Rattle.depots.specs.Moves.{effects_of, end_of, move_named, need_of};
 ghost use Rattle.depots.specs.Tables.{effect_of, tables_of};
 
 use crate::depot::{Depot, Effect};
@@ -45,6 +45,16 @@ impl<K: Kind> Depot<K> {
         ensures { result ≡ length (tables_of self.now).moves }
     {
         self.moves.len()
+    }
+
+    // The number of the first listed move with a name, if there is one.
+    pub fn move_named(&self, name: &[u8]) -> Option<usize>
+        ensures { result ≡ move_named (tables_of self.now).names name.now }
+    {
+        self.moves
+            .iter()
+            .position(|listed| listed.name.is(name))
+            .map(|before| before + 1)
     }
 
     // The formula number of a move's need, if the move is listed.

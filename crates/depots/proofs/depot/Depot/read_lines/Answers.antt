@@ -1,11 +1,12 @@
 use Rattle.std.proofs.Common.{rules, ◌+◌, subst, arith, inl}
 use Rattle.std.specs.Iterator.Adapters.{enumerate_source}
 use Rattle.std.proofs.lemmas.Result.{err_from_is_err_and, MatchResult-at_ok, MatchResult-at_err}
+use Rattle.sheets.specs.declared.faults.Sheet.TheVariants.{Depot}
 use Rattle.sheets.specs.Lines.{shown}
 use Rattle.sheets.proofs.Handed.{value_kept, error_made}
 use Rattle.sheets.proofs.Rows.{few_numbered}
 use Rattle.depots.specs.Kinds.{meaning_of}
-use Rattle.depots.specs.Spelling.{Placed}
+use Rattle.depots.specs.Troubles.{Placed}
 use Rattle.depots.proofs.Walk.{stopped, too_long, walk-on, ended}
 use Rattle.depots.proofs.depot.Depot.read_lines.Goals as goal
 
@@ -25,9 +26,9 @@ returns-in_err-letter g c =
     let made = error_made _ c.read_line.result c.map_err.result _ c.map_err.ensures.cases c.in_err-letter.was in
     let step = c.in-Some.ensures.steps in
     let told = MatchResult-at_err _ _ made.0 made.1 c.read_line.ensures in
-    let at : Placed (c.in-Some.i + 1) made.0 c.in_err-letter.field-0.0 = search (rules, made.2) in
+    let at : Placed Depot (c.in-Some.i + 1) made.0 c.in_err-letter.field-0.0 = search (rules, made.2) in
     rw (p.1, p.2)
-    (stopped (meaning_of g.K.Kind g.K.TextKind.reading_under) c.args.sheet.now _ _ _ _ c.loop-i.invariant (shown c.in-Some.line) (enumerate_source c.next.new.self).rest.now step.0 made.0 c.in_err-letter.field-0.0 c.in_ok-judge_limit.ensures told (subst (λ k. Placed (k + 1) made.0 c.in_err-letter.field-0.0) step.1 at))
+    (stopped (meaning_of g.K.Kind g.K.TextKind.reading_under) c.args.sheet.now _ _ _ _ c.loop-i.invariant (shown c.in-Some.line) (enumerate_source c.next.new.self).rest.now step.0 made.0 c.in_err-letter.field-0.0 c.in_ok-judge_limit.ensures told (subst (λ k. Placed Depot (k + 1) made.0 c.in_err-letter.field-0.0) step.1 at))
 
 pub loop-i-preserved : goal.loop-i-preserved
 loop-i-preserved g c =

@@ -1,0 +1,3 @@
+pub mod Firsts
+pub mod Told
+pub mod Walk

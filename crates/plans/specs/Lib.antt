@@ -1,0 +1,5 @@
+pub mod Fields
+pub mod Laws
+pub mod Plans
+pub mod Spelling
+pub mod Wrong

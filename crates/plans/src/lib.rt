@@ -1,0 +1,7 @@
+// A plan, as it is read from its sheet.
+#![tactic(auto)]
+
+pub mod laws;
+pub mod plan;
+pub mod plan_reader;
+mod step_line;
