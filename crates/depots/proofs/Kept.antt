@@ -27,10 +27,11 @@ named_move text moves = from 0 moves
     from n [] = refl
     from n (m ∷ moves) = found (bytes_eq m.name text) _ (first_from (λ t. bytes_eq t text) (n + 1) (map (λ m. m.name) moves)) n (from (n + 1) moves)
 
--- the number of the first that is so named is one more than its place
+-- the number of what `position` finds is one more than its place
+pub number_found : {X : Type 0} (test : X → Bool) (xs : List X) (r : Option ℕ) → r ≡ position test xs → option_map (λ n. n + 1) r ≡ first_from test 1 xs
+number_found test xs None found = no_number test xs found
+number_found test xs (Some n) found = number_at test xs n found
+
+-- and so that of the first move with a name
 pub number_of_named : (text : List ℕ) (moves : List NamedMove) (r : Option ℕ) → r ≡ position (λ m. bytes_eq m.name text) moves → option_map (λ n. n + 1) r ≡ number_named (map (λ m. m.name) moves) text
-number_of_named text moves r found = by_place r found ∙ first_from-map (λ t. bytes_eq t text) (λ m. m.name) 1 moves
-  where
-    by_place : (r : Option ℕ) → r ≡ position (λ m. bytes_eq m.name text) moves → option_map (λ n. n + 1) r ≡ first_from (λ m. bytes_eq m.name text) 1 moves
-    by_place None found = no_number (λ m. bytes_eq m.name text) moves found
-    by_place (Some n) found = number_at (λ m. bytes_eq m.name text) moves n found
+number_of_named text moves r found = number_found (λ m. bytes_eq m.name text) moves r found ∙ first_from-map (λ t. bytes_eq t text) (λ m. m.name) 1 moves

@@ -30,7 +30,6 @@ impl<K: TextKind> Depot<K> {
     {
         judge_limit(sheet)?;
         let mut above = Above::nothing();
-        // As `judge_layout` of `sheets` walks over them, which says why the walk is written twice.
         for (i, line) in Lines::of(sheet).enumerate() {
             let number = i + 1;
             let letter = self

@@ -96,11 +96,7 @@ pub fn at_line(sheet: Sheet, line: usize, refusal: Refusal) -> Fault
     ensures { Placed sheet line refusal result }
 {
     match refusal {
-        Refusal::NoMemory => Fault {
-            sheet: None,
-            line: 0,
-            refusal,
-        },
+        Refusal::NoMemory => Fault::unplaced(refusal),
         _ => Fault::on(sheet, line, refusal),
     }
 }

@@ -6,7 +6,9 @@ mod depot_sheets;
 #[cfg(test)]
 mod fact_fields;
 #[cfg(test)]
-mod layouts;
+mod full_sheets;
+#[cfg(test)]
+mod sheet_rows;
 #[cfg(test)]
 mod shown_lines;
 #[cfg(test)]

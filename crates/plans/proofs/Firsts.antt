@@ -14,18 +14,18 @@ use Rattle.sheets.specs.Listed.{first_from}
 use Rattle.sheets.specs.Names.{is_name}
 use Rattle.sheets.specs.Numbered.{entry_at}
 use Rattle.sheets.proofs.Sought.{first_from-map, found-passes}
-use Rattle.facts.proofs.Numbered.{no_number, number_at}
 use Rattle.depots.specs.Moves.{move_named}
+use Rattle.depots.proofs.Kept.{number_found}
 use Rattle.plans.specs.Fields.{First, NoName, Repeated, Unlisted}
-use Rattle.plans.specs.Spelling.{Names}
+use Rattle.plans.specs.Spelling.{NameMoves}
 
 -- the same fields have something else wrong
-pub first-of : (A B : ℕ → Type 0) → ((n : ℕ) → A n → B n) → ((n : ℕ) → B n → A n) → (r : Option ℕ) → First A r → First B r
+first-of : (A B : ℕ → Type 0) → ((n : ℕ) → A n → B n) → ((n : ℕ) → B n → A n) → (r : Option ℕ) → First A r → First B r
 first-of A B to back None none = λ n f. none n (back n f)
 first-of A B to back (Some n) found = (to n found.0, λ k f. found.1 k (back k f))
 
 -- an entry passes a test, where the entries are numbered from m
-abbrev pub Passes : {X : Type 0} → (X → Bool) → ℕ → List X → ℕ → Type 0
+abbrev Passes : {X : Type 0} → (X → Bool) → ℕ → List X → ℕ → Type 0
 Passes {X} test m xs n = (i : ℕ) × (x : X) × (n ≡ m + i) × (slice_get xs i ≡ Some x) × (test x ≡ true)
 
 -- a search finds the first that passes
@@ -44,13 +44,9 @@ sought {X} test m (x ∷ xs) = by_first (test x) refl (sought test (m + 1) xs)
     by_first true is later = ((0, x, omega arith, refl, is), λ k f. omega (arith, f.2))
     by_first false is later = by_later is _ later
 
--- the number of what `position` finds is one more than its place
-pub numbered_first : {X : Type 0} (test : X → Bool) (xs : List X) (r : Option ℕ) → r ≡ position test xs → First (Passes test 1 xs) (option_map (λ n. n + 1) r)
-numbered_first test xs r found = subst (First (Passes test 1 xs)) (sym (by_place r found)) (sought test 1 xs)
-  where
-    by_place : (r : Option ℕ) → r ≡ position test xs → option_map (λ n. n + 1) r ≡ first_from test 1 xs
-    by_place None found = no_number test xs found
-    by_place (Some n) found = number_at test xs n found
+-- the number of what `position` finds
+numbered_first : {X : Type 0} (test : X → Bool) (xs : List X) (r : Option ℕ) → r ≡ position test xs → First (Passes test 1 xs) (option_map (λ n. n + 1) r)
+numbered_first test xs r found = subst (First (Passes test 1 xs)) (sym (number_found test xs r found)) (sought test 1 xs)
 
 -- an entry with a number
 numbered : {X : Type 0} (xs : List X) (n i : ℕ) (x : X) → n ≡ 1 + i → slice_get xs i ≡ Some x → entry_at xs n ≡ Some x
@@ -63,7 +59,7 @@ at_place xs (suc n) x here = (n, omega arith, here)
 
 -- of a test that what is wrong with an entry fails
 module _ {X : Type 0} (xs : List X) (test : X → Bool) (Wrong : X → Type 0) (is-wrong : (x : X) → test x ≡ true → Wrong x) (passes : (x : X) → Wrong x → test x ≡ true) where
-  pub wrong_first : (r : Option ℕ) → First (Passes test 1 xs) r → First (λ n. (x : X) × (entry_at xs n ≡ Some x) × Wrong x) r
+  wrong_first : (r : Option ℕ) → First (Passes test 1 xs) r → First (λ n. (x : X) × (entry_at xs n ≡ Some x) × Wrong x) r
   wrong_first = first-of (Passes test 1 xs) (λ n. (x : X) × (entry_at xs n ≡ Some x) × Wrong x) (λ n f. (f.1, numbered xs n f.0 f.1 f.2 f.3, is-wrong f.1 f.4)) (λ n f. let at = at_place xs n f.0 f.1 in (at.0, f.0, at.1, at.2, passes f.0 f.2))
 
 -- the first that is no name
@@ -130,7 +126,7 @@ module _ (numbers : List ℕ) where
           (i, (i, get_or numbers i 0), at, entry i within, is)
 
 -- two fields are one exactly if they name one move
-module _ (names fields : List (List ℕ)) (moves : List ℕ) (all : Names names fields moves) where
+module _ (names fields : List (List ℕ)) (moves : List ℕ) (all : NameMoves names fields moves) where
   along : (i : ℕ) → option_map (move_named names) (slice_get fields i) ≡ option_map Some (slice_get moves i)
   along i = sym (slice_get-map (move_named names) fields i) ∙ ap (λ l. slice_get l i) all ∙ slice_get-map Some moves i
 
@@ -175,8 +171,3 @@ module _ (names fields : List (List ℕ)) (moves : List ℕ) (all : Names names 
           let (a, here-a, is-a) = named k t first in
           let (b, here-b, is-b) = named n t second in
           (a, k, before, here-a, here-b ∙ sym is-b ∙ is-a)
-
--- how many bytes are still to be cut
-abbrev pub left : Option (List ℕ) → ℕ
-left None = 0
-left (Some bs) = suc (length bs)

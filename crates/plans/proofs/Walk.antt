@@ -11,7 +11,7 @@ use Rattle.sheets.proofs.Passed.{Passed, at_place, count, one_more, passed-on, w
 use Rattle.sheets.proofs.Sheetwise.{Clear, Late, end-right, line_refused, over-limit}
 use Rattle.std.proofs.lemmas.Option.{same_Some}
 use Rattle.depots.specs.Troubles.{Placed}
-use Rattle.plans.specs.Spelling.{Names, NothingLacks, PlanRead, PlanRefused, PlanTold, Spelled, Wrong}
+use Rattle.plans.specs.Spelling.{LacksNothing, NameMoves, PlanRead, PlanRefused, PlanTold, Spelled, Wrong}
 use Rattle.plans.specs.Wrong.{LineWrong, plan_limit}
 
 -- two rows of values are one
@@ -33,7 +33,7 @@ module _ (names : List (List ℕ)) where
   spelled_length (l ∷ ls) (moves ∷ steps) a = ap suc (spelled_length ls steps a.1)
 
   -- one line more
-  spelled-push : (ls : List Line) (steps : List (List ℕ)) (l : Line) (moves : List ℕ) → Spelled names ls steps → Names names (fields l) moves → Spelled names (ls ++ l ∷ []) (steps ++ moves ∷ [])
+  spelled-push : (ls : List Line) (steps : List (List ℕ)) (l : Line) (moves : List ℕ) → Spelled names ls steps → NameMoves names (fields l) moves → Spelled names (ls ++ l ∷ []) (steps ++ moves ∷ [])
   spelled-push [] [] l moves a here = (here, tt)
   spelled-push [] (other ∷ steps) l moves a here = absurd a
   spelled-push (m ∷ ls) [] l moves a here = absurd a
@@ -48,14 +48,14 @@ module _ (names : List (List ℕ)) where
   spelled-one (l ∷ ls) (moves ∷ steps) [] a b = absurd b
   spelled-one (l ∷ ls) (moves ∷ steps) (ms ∷ other) a b = ap (λ x. x ∷ steps) (same_values moves ms (sym a.0 ∙ b.0)) ∙ ap (λ xs. ms ∷ xs) (spelled-one ls steps other a.1 b.1)
 
-  late : Late (Wrong names) NothingLacks
+  late : Late (Wrong names) LacksNothing
   late = record { size = λ ls v f. absurd f; lines = λ above l w g ls v f. absurd f }
 
   told : (s : List ℕ) (f : Fault) (n : ℕ) (w : Refusal) → f.sheet ≡ Some Plan → f.line ≡ n → f.refusal ≡ w → PlanRefused names s n w → PlanTold names s f
   told s f n w on at for low = inr (on, subst (λ i. PlanRefused names s i f.refusal) (sym at) (subst (PlanRefused names s n) (sym for) low))
 
   pub too_long : (s : List ℕ) (f : Fault) → (plan_limit < length s) × (f.sheet ≡ Some Plan) × (f.line ≡ 0) × (f.refusal ≡ OverLimit) → PlanTold names s f
-  too_long s f over = told s f 0 OverLimit over.1 over.2 over.3 (over-limit plan_limit (Wrong names) NothingLacks late s over.0)
+  too_long s f over = told s f 0 OverLimit over.1 over.2 over.3 (over-limit plan_limit (Wrong names) LacksNothing late s over.0)
 
   -- the first n lines of s have no fault and spell the steps, and rest is what is left
   pub record Walked (s rest : List ℕ) (n : ℕ) (steps : List (List ℕ)) : Type 0 where
@@ -71,7 +71,7 @@ module _ (names : List (List ℕ)) where
       under : (w : Refusal) → Wrong names (take n (lines_of s)) l w → LineWrong names (length steps) l w
       under w f = subst (λ k. LineWrong names k l w) (sym (spelled_length (take n (lines_of s)) steps walked.spelled)) f
 
-      pub walk-on : (new : List (List ℕ)) → ((w : Refusal) → LineWrong names (length steps) l w → ⊥) × ((moves : List ℕ) × Names names (fields l) moves × (new ≡ steps ++ moves ∷ [])) → Walked s below (n + 1) new
+      pub walk-on : (new : List (List ℕ)) → ((w : Refusal) → LineWrong names (length steps) l w → ⊥) × ((moves : List ℕ) × NameMoves names (fields l) moves × (new ≡ steps ++ moves ∷ [])) → Walked s below (n + 1) new
       walk-on new added =
           let longer = one_more (Wrong names) s rest n _ walked.passed l below next in
           record {
@@ -84,11 +84,11 @@ module _ (names : List (List ℕ)) where
       stopped w f few (inl e) (inr at) = absurd (at.0 e)
       stopped w f few (inr low) (inr at) =
           told s f (n + 1) w at.1 at.2 at.3
-          (line_refused plan_limit (Wrong names) NothingLacks late s few n l w (at_place (Wrong names) s rest n _ walked.passed l below next) walked.passed.clear (record { holds = wrong w low.holds; first = λ v e. low.first v (under v e) }))
+          (line_refused plan_limit (Wrong names) LacksNothing late s few n l w (at_place (Wrong names) s rest n _ walked.passed l below next) walked.passed.clear (record { holds = wrong w low.holds; first = λ v e. low.first v (under v e) }))
 
     -- no line is left
     pub ended : lines_of rest ≡ [] → length s ≤ plan_limit → PlanRead names s steps
     ended none few = record {
-      faultless = end-right plan_limit (Wrong names) NothingLacks late s few (subst (Clear (Wrong names) (lines_of s)) (count (Wrong names) s rest n _ walked.passed none) walked.passed.clear) (λ v f. f);
+      faultless = end-right plan_limit (Wrong names) LacksNothing late s few (subst (Clear (Wrong names) (lines_of s)) (count (Wrong names) s rest n _ walked.passed none) walked.passed.clear) (λ v f. f);
       spelled = subst (λ ls. Spelled names ls steps) (whole (Wrong names) s rest n _ walked.passed none) walked.spelled;
     }

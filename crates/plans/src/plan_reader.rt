@@ -49,8 +49,8 @@ pub fn read_plan<K: Kind>(heap: Global, depot: &Depot<K>, sheet: &[u8]) -> Resul
     let mut steps = Vec::new(heap);
     for (i, line) in Lines::of(sheet).enumerate() {
         let number = i + 1;
-        add_step(depot, &mut steps, &line)
-            .map_err(|refusal| at_line(Sheet::Plan, number, refusal))?;
+        let added = add_step(depot, &mut steps, &line);
+        added.map_err(|refusal| at_line(Sheet::Plan, number, refusal))?;
     }
     Ok(Plan { steps })
 }

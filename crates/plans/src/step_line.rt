@@ -6,7 +6,7 @@ ghost use Rattle.sheets.specs.Pieces.{pieces};
 ghost use Rattle.depots.specs.Tables.{tables_of};
 ghost use Rattle.plans.specs.Fields.{First, NoName, Repeated, Unlisted};
 ghost use Rattle.plans.specs.Plans.{moves_of};
-ghost use Rattle.plans.specs.Spelling.{Names, StepRead};
+ghost use Rattle.plans.specs.Spelling.{NameMoves, StepRead};
 
 use crate::plan::{MOST_MOVES, Step};
 use depots::depot::Depot;
@@ -34,7 +34,7 @@ fn no_name(text: &[u8]) -> Option<usize>
 // The moves that the fields of a line name, or the first field that names none. The text is cut by hand, as a list of facts is.
 fn named_moves<K: Kind>(depot: &Depot<K>, text: &[u8]) -> Result<Step, Refusal>
     requires { length (pieces 9 text.now) ≤ 8 }
-    ensures { MatchResult result (λ step. Names (tables_of depot.now).names (pieces 9 text.now) (moves_of step)) (λ w. (field : ℕ) × (w ≡ NotListed field) × First (Unlisted (tables_of depot.now).names (pieces 9 text.now)) (Some field)) }
+    ensures { MatchResult result (λ step. NameMoves (tables_of depot.now).names (pieces 9 text.now) (moves_of step)) (λ w. (field : ℕ) × (w ≡ NotListed field) × First (Unlisted (tables_of depot.now).names (pieces 9 text.now)) (Some field)) }
 {
     let mut moves = ShortList::none(0);
     let mut rest = Some(text);

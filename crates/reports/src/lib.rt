@@ -4,5 +4,4 @@
 pub mod accepted;
 pub mod check;
 pub mod depot_report;
-pub mod layout_report;
 pub mod refused;

@@ -1,7 +1,7 @@
 // The program: the two sheets of the folder it is run in, and the report on standard output.
 #![tactic(auto)]
 
-use reports::layout_report::layout_report;
+use reports::depot_report::depot_report;
 use sheets::faulty_line::Sheets;
 use sheets::layout::DEPOT_LIMIT;
 use std::fs::File;
@@ -36,6 +36,6 @@ fn main(rt: HostRuntime) -> io::Result<()> {
         depot: &depot,
         plan: &plan,
     };
-    let report = layout_report(rt.alloc(), &sheets)?;
+    let report = depot_report(rt.alloc(), &sheets)?;
     rt.stdout().write_all(&report)
 }

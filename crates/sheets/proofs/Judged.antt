@@ -1,12 +1,12 @@
 -- What the judgement of a line tells of its faults. Assumes nothing.
-use Rattle.std.proofs.Common.{◌≡◌, ℕ, Bool, true, false, ◌||◌, List, [], ◌∷◌, length, Some, None, Option, sym, refl, ap, ◌∙◌, subst, inl, inr, ⊎_elim, arith}
+use Rattle.std.proofs.Common.{◌≡◌, ℕ, Bool, true, false, List, [], ◌∷◌, length, Some, None, Option, sym, refl, ap, ◌∙◌, subst, inl, inr, ⊎_elim, arith}
 use Rattle.std.proofs.lemmas.Bool.{cases_Bool, cond-true, cond-false, both_ways}
 use Rattle.sheets.specs.declared.layout.Above.{Above}
 use Rattle.sheets.specs.declared.letters.Letter.{Letter}
 use Rattle.sheets.specs.declared.refusals.Refusal.{Refusal}
 use Rattle.sheets.specs.declared.refusals.Refusal.TheVariants.{FieldCount}
 use Rattle.sheets.specs.Faults.{NoLater, Lowest}
-use Rattle.sheets.specs.Layout.{fields, legible, letter_on, LayoutFault, after, says_sight}
+use Rattle.sheets.specs.Layout.{fields, legible, letter_on, LayoutFault}
 use Rattle.sheets.specs.Letters.{fields_of, may_come, MayCome, permitted}
 use Rattle.sheets.specs.Lines.{Line}
 use Rattle.sheets.specs.Refusals.{rank_of}
@@ -52,10 +52,3 @@ module _ (a : Above) (l : Line) (read : true ≡ legible l) (k : Letter) (let_th
 
   pub nothing-wrong : length (fields l) ≡ fields_of k → (w : Refusal) → LayoutFault a l w → ⊥
   nothing-wrong right w f = (only-count w f).1 right
-
--- what stands above the line below, from its two parts
-pub goes_on : (a b : Above) (l : Line) (k : Letter) → letter_on l ≡ Some k → b.letter ≡ Some k → b.sight ≡ (a.sight || says_sight l) → b ≡ after a l
-goes_on a b l k here letter sight = of_parts b.letter b.sight (letter ∙ sym here) sight
-  where
-    of_parts : (o : Option Letter) (t : Bool) → o ≡ letter_on l → t ≡ (a.sight || says_sight l) → ◌≡◌ {A = Above} (record { letter = o; sight = t }) (after a l)
-    of_parts o t p q = cc

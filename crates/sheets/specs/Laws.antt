@@ -2,8 +2,6 @@
 use Rattle.std.specs.Prelude.{◌≡◌, ℕ, ◌<◌, true, cond, List, [], ◌∷◌, ◌++◌, length}
 use Rattle.std.specs.List.{flat_map, AllByRecursion}
 use Rattle.std.specs.Str.Iter.{LacksByte}
-use Rattle.sheets.specs.declared.refusals.Refusal.{Refusal}
-use Rattle.sheets.specs.Layout.{LayoutRefused}
 use Rattle.sheets.specs.Lines.{Line, line_end, lines_of}
 
 -- A line as its sheet has it.
@@ -26,7 +24,3 @@ pub record Split (s : List ℕ) (ls : List Line) : Type 0 where
 -- Every sheet is so split.
 abbrev pub LinesSplit : Type 0
 LinesSplit = (s : List ℕ) → Split s (lines_of s)
-
--- A depot sheet has one refusal for its layout at the most.
-abbrev pub OneRefusal : Type 0
-OneRefusal = (s : List ℕ) (n m : ℕ) (w v : Refusal) → LayoutRefused s n w → LayoutRefused s m v → (n ≡ m) × (w ≡ v)

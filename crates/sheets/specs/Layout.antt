@@ -8,7 +8,6 @@ use Rattle.sheets.specs.declared.letters.Letter.TheVariants.{Goal}
 use Rattle.sheets.specs.declared.refusals.Refusal.{Refusal}
 use Rattle.sheets.specs.declared.refusals.Refusal.TheVariants.{BadLine, BadLetter, FieldCount, NoGoal}
 use Rattle.sheets.specs.Bytes.{every}
-use Rattle.sheets.specs.Faults.{SheetRefused, SheetFaultless}
 use Rattle.sheets.specs.Letters.{letter_of, fields_of, MayCome}
 use Rattle.sheets.specs.Lines.{Line}
 use Rattle.sheets.specs.Pieces.{pieces}
@@ -62,18 +61,6 @@ is_sight = list_any says_sight
 abbrev pub above_of : List Line → Above
 above_of ls = record { letter = last_letter ls; sight = is_sight ls }
 
--- What stands above the line below one more.
-abbrev pub after : Above → Line → Above
-after a l = record { letter = letter_on l; sight = a.sight || says_sight l }
-
 -- What a sheet lacks whose last line is no goal.
 abbrev pub Unfinished : List Line → Refusal → Type 0
 Unfinished ls w = (w ≡ NoGoal) × (last_letter ls ≢ Some Goal)
-
--- The refusal of a depot sheet for its layout.
-abbrev pub LayoutRefused : List ℕ → ℕ → Refusal → Type 0
-LayoutRefused = SheetRefused depot_limit (λ above. LayoutFault (above_of above)) Unfinished
-
--- A depot sheet whose layout is right.
-abbrev pub LaidOut : List ℕ → Type 0
-LaidOut = SheetFaultless depot_limit (λ above. LayoutFault (above_of above)) Unfinished

@@ -1,5 +1,6 @@
 -- What is told of a refusal, and which of two comes first. Assumes nothing.
-use Rattle.std.specs.Prelude.{ℕ, List, [], ◌∷◌}
+use Rattle.std.specs.Prelude.{ℕ, List, [], ◌∷◌, None}
+use Rattle.sheets.specs.declared.faults.Fault.{Fault}
 use Rattle.sheets.specs.declared.refusals.Refusal.{Refusal}
 use Rattle.sheets.specs.declared.refusals.Refusal.TheVariants.{OverLimit, BadLine, BadLetter, FieldCount, NotItsForm, NotListed, Twice, AlwaysTrue, TableFull, NoGoal, StepSize, UnknownMove, RepeatedMove, NeedFalse, Contradictory, Disturbed, GoalFalse, UnknownNumber, BufferShort, NoMemory}
 
@@ -50,3 +51,7 @@ details_of w = no_detail
 -- What decides which of two refusals is told, the lower before the higher: the number, and then the details.
 abbrev pub rank_of : Refusal → List ℕ
 rank_of w = number_of w ∷ details_of w
+
+-- A refusal that speaks of no sheet, with line 0.
+abbrev pub unplaced : Refusal → Fault
+unplaced w = record { sheet = None; line = 0; refusal = w }

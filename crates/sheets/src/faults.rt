@@ -1,5 +1,6 @@
 // A refusal with the place that it speaks of.
 ghost use Rattle.std.specs.Prelude.{◌≡◌, Some};
+ghost use Rattle.sheets.specs.Refusals.{unplaced};
 
 use crate::refusals::Refusal;
 
@@ -29,6 +30,17 @@ impl Fault {
         Fault {
             sheet: Some(sheet),
             line,
+            refusal,
+        }
+    }
+
+    // A refusal that speaks of no sheet.
+    pub fn unplaced(refusal: Refusal) -> Fault
+        ensures { result ≡ unplaced refusal }
+    {
+        Fault {
+            sheet: None,
+            line: 0,
             refusal,
         }
     }

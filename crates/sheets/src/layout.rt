@@ -5,7 +5,7 @@ ghost use Rattle.sheets.specs.declared.letters.Letter.TheVariants.{Goal};
 ghost use Rattle.sheets.specs.declared.refusals.Refusal.TheVariants.{OverLimit, NoGoal};
 ghost use Rattle.sheets.specs.Bytes.{every};
 ghost use Rattle.sheets.specs.Faults.{Lowest};
-ghost use Rattle.sheets.specs.Layout.{depot_limit, allowed, legible, letter_on, says_sight, above_of, after, LayoutFault, LayoutRefused, LaidOut};
+ghost use Rattle.sheets.specs.Layout.{depot_limit, allowed, legible, letter_on, says_sight, above_of, LayoutFault};
 ghost use Rattle.sheets.specs.Letters.{permitted};
 ghost use Rattle.sheets.specs.Lines.{shown, lines_of};
 
@@ -105,14 +105,6 @@ impl Above {
         }
     }
 
-    // What stands above the next line, or the lowest thing that is wrong with this one.
-    pub fn judge(&self, line: &Line) -> Result<Above, Refusal>
-        ensures { MatchResult result (λ next. ((w : Refusal) → LayoutFault self.now (shown line.now) w → ⊥) × (next ≡ after self.now (shown line.now))) (λ w. Lowest (LayoutFault self.now (shown line.now)) w) }
-    {
-        let letter = self.judge_letter(line)?;
-        Ok(self.below(line, letter))
-    }
-
     // The end of a depot sheet below this: right, or refused for want of its goal.
     pub fn judge_end(&self, sheet: &[u8]) -> Result<(), Fault>
         ensures { MatchResult result (λ _. self.now.letter ≡ Some Goal) (λ f. (self.now.letter ≢ Some Goal) × (f.sheet ≡ Some Depot) × (f.line ≡ length (lines_of sheet.now)) × (f.refusal ≡ NoGoal)) }
@@ -133,21 +125,4 @@ pub fn judge_limit(sheet: &[u8]) -> Result<(), Fault>
         return Err(Fault::on(Sheet::Depot, 0, Refusal::OverLimit));
     }
     Ok(())
-}
-
-// The layout of a whole depot sheet: right, or refused for the lowest fault.
-pub fn judge_layout(sheet: &[u8]) -> Result<(), Fault>
-    ensures { MatchResult result (λ _. LaidOut sheet.now) (λ f. (f.sheet ≡ Some Depot) × LayoutRefused sheet.now f.line f.refusal) }
-{
-    judge_limit(sheet)?;
-    let mut above = Above::nothing();
-    // The reader of whole sheets walks over the lines alike. One walk for both would be told what to do with a line by a
-    // closure that writes the depot, and its contract, a chain of all that the closure did, would be longer than this.
-    for (i, line) in Lines::of(sheet).enumerate() {
-        let number = i + 1;
-        above = above
-            .judge(&line)
-            .map_err(|refusal| Fault::on(Sheet::Depot, number, refusal))?;
-    }
-    above.judge_end(sheet)
 }

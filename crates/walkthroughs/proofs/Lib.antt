@@ -8,10 +8,12 @@ pub mod Faulty
 pub mod Fires
 pub mod Firings
 pub mod Judged
+pub mod Judgement
 pub mod Lowests
 pub mod MadeRows
 pub mod Mapped
 pub mod Marking
+pub mod Outcomes
 pub mod Places
 pub mod Placewise
 pub mod Replies

@@ -1,8 +1,8 @@
 -- A walkthrough that is under way, and how its calls answer. Assumes nothing.
 use Rattle.std.specs.Prelude.{◌≡◌, ℕ, Bool, true, false, None, Ok, Err, Result, MatchResult, is_none}
 use Rattle.sheets.specs.declared.faults.Fault.{Fault}
-use Rattle.sheets.specs.declared.refusals.Refusal.{Refusal}
 use Rattle.sheets.specs.declared.refusals.Refusal.TheVariants.{NoGoal}
+use Rattle.sheets.specs.Refusals.{unplaced}
 use Rattle.depots.specs.Tables.{Tables}
 use Rattle.walkthroughs.specs.declared.walkthrough.Walkthrough.{Walkthrough}
 use Rattle.walkthroughs.specs.Firing.{start_of}
@@ -14,10 +14,6 @@ use Rattle.walkthroughs.specs.Runs.Answer.{refused}
 -- What a walkthrough holds.
 abbrev pub held : Walkthrough → Held
 held w = record { stands = standing w.marks }
-
--- A refusal by a call: it speaks of no sheet and of line 0.
-abbrev pub unplaced : Refusal → Fault
-unplaced w = record { sheet = None; line = 0; refusal = w }
 
 -- A walkthrough is made at the start of a depot; an empty depot has none, and is refused.
 abbrev pub Made : {F : Type 0} → (F → F → Bool) → Tables F → Result Walkthrough Fault → Type 0

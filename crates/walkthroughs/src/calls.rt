@@ -5,7 +5,7 @@ ghost use Rattle.walkthroughs.specs.Ruled.{ruled};
 ghost use Rattle.walkthroughs.specs.Runs.{Answered};
 ghost use Rattle.walkthroughs.specs.Runs.Answer.{accepted, told};
 ghost use Rattle.walkthroughs.specs.Runs.Call.{look, step, truth};
-ghost use Rattle.walkthroughs.specs.Walkthroughs.{Answers, Made, held, unplaced};
+ghost use Rattle.walkthroughs.specs.Walkthroughs.{Answers, Made, held};
 
 use crate::marks::Marks;
 use crate::moment::Moment;
@@ -17,24 +17,13 @@ use formulas::truth::truth;
 use sheets::faults::Fault;
 use sheets::refusals::Refusal;
 
-// A refusal by a call.
-fn unplaced(refusal: Refusal) -> Fault
-    ensures { result ≡ unplaced refusal }
-{
-    Fault {
-        sheet: None,
-        line: 0,
-        refusal,
-    }
-}
-
 impl Walkthrough {
     // A walkthrough at the start of a depot: the started facts stand, and every listed fact that they carry.
     pub fn make<K: Kind>(depot: &Depot<K>) -> Result<Walkthrough, Fault>
         ensures { Made K.carrying (tables_of depot.now) result }
     {
         if depot.is_empty() {
-            return Err(unplaced(Refusal::NoGoal));
+            return Err(Fault::unplaced(Refusal::NoGoal));
         }
         let mut marks = Marks::none();
         marks.turn_to(&started(depot), depot.facts().len());
@@ -46,7 +35,7 @@ impl Walkthrough {
         ensures { Answers told (λ a. Answered (ruled K.carrying (tables_of depot.now)) (held self.now) (look number) a (held self.now)) result }
     {
         if depot.fact_at(number).is_none() {
-            return Err(unplaced(Refusal::UnknownNumber));
+            return Err(Fault::unplaced(Refusal::UnknownNumber));
         }
         Ok(self.marks.stands(number))
     }
@@ -57,7 +46,7 @@ impl Walkthrough {
     {
         let formula = depot
             .formula_at(number)
-            .ok_or(unplaced(Refusal::UnknownNumber))?;
+            .ok_or(Fault::unplaced(Refusal::UnknownNumber))?;
         Ok(truth(formula, &self.marks.row()))
     }
 
@@ -68,7 +57,7 @@ impl Walkthrough {
     {
         let row = self.marks.row();
         let moment = Moment { depot, row: &row };
-        let after = moment.judge(moves).map_err(unplaced)?;
+        let after = moment.judge(moves).map_err(Fault::unplaced)?;
         Ok(self.marks.turn_to(&after, depot.facts().len()))
     }
 }

@@ -5,7 +5,8 @@ ghost use Rattle.depots.specs.Tables.{tables_of};
 ghost use Rattle.walkthroughs.specs.Exchanges.{Lawful, call_of, answer_of};
 ghost use Rattle.walkthroughs.specs.Ruled.{ruled};
 ghost use Rattle.walkthroughs.specs.Runs.{Answered};
-ghost use Rattle.walkthroughs.specs.Walkthroughs.{held, unplaced};
+ghost use Rattle.sheets.specs.Refusals.{unplaced};
+ghost use Rattle.walkthroughs.specs.Walkthroughs.{held};
 
 use crate::exchange::{Answer, Call, Exchange};
 use crate::walkthrough::Walkthrough;

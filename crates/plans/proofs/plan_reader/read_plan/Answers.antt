@@ -23,9 +23,9 @@ loop-i-init-derived g c =
 pub returns-in_err-map_err : goal.returns-in_err-map_err
 returns-in_err-map_err g c =
     let p = err_from_is_err_and c.from_residual-in_err-map_err.result c.from_residual-in_err-map_err.ensures.1 in
-    let made = error_made _ c.add_step.result c.map_err.result _ c.map_err.ensures.cases c.in_err-map_err.was in
+    let made = error_made _ c.add_step-added.result c.map_err.result _ c.map_err.ensures.cases c.in_err-map_err.was in
     let step = c.in-Some.ensures.steps in
-    let told = MatchResult-at_err _ _ made.0 made.1 c.add_step.ensures in
+    let told = MatchResult-at_err _ _ made.0 made.1 c.add_step-added.ensures in
     let at : Placed Plan (c.in-Some.i + 1) made.0 c.in_err-map_err.field-0.0 = search (rules, made.2) in
     rw (p.1, p.2)
     (stopped (tables_of c.args.depot.now).names c.args.sheet.now _ _ _ c.loop-i.invariant (shown c.in-Some.line) (enumerate_source c.next.new.self).rest.now step.0 made.0 c.in_err-map_err.field-0.0 c.in_ok-judge_limit.ensures told (subst (λ k. Placed Plan (k + 1) made.0 c.in_err-map_err.field-0.0) step.1 at))
@@ -33,7 +33,7 @@ returns-in_err-map_err g c =
 pub loop-i-preserved : goal.loop-i-preserved
 loop-i-preserved g c =
     let step = c.in-Some.ensures.steps in
-    let added = MatchResult-at_ok _ _ c.in_ok-map_err.field-0 (value_kept _ c.add_step.result c.map_err.result _ c.map_err.ensures.cases c.in_ok-map_err.was) c.add_step.ensures in
+    let added = MatchResult-at_ok _ _ c.in_ok-map_err.field-0 (value_kept _ c.add_step-added.result c.map_err.result _ c.map_err.ensures.cases c.in_ok-map_err.was) c.add_step-added.ensures in
     rw step.2 (walk-on (tables_of c.args.depot.now).names c.args.sheet.now _ _ _ c.loop-i.invariant (shown c.in-Some.line) (enumerate_source c.next.new.self).rest.now step.0 _ added)
 
 pub returns : goal.returns

@@ -2,7 +2,8 @@ use Rattle.std.specs.Option.{option_map}
 use Rattle.sheets.specs.Pieces.{following, pieces}
 use Rattle.facts.specs.ShortLists.{entries_of}
 use Rattle.depots.specs.Tables.{tables_of}
-use Rattle.plans.proofs.Firsts.{NamesSoFar, left}
+use Rattle.depots.proofs.Gathered.{left}
+use Rattle.plans.proofs.Firsts.{NamesSoFar}
 use Rattle.plans.proofs.step_line.named_moves.Given as goal
 
 abbrev pub invariant-loop-rest : goal.invariant-loop-rest

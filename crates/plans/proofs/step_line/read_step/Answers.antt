@@ -1,8 +1,8 @@
-use Rattle.std.proofs.Common.{◌≡◌, ◌≤◌, ◌<◌, true, length, Some, None, sym, ap, ◌∙◌, subst, arith}
+use Rattle.std.proofs.Common.{◌≤◌, length, Some, None, sym, subst, arith}
 use Rattle.std.proofs.lemmas.Bool.{leb-true, leb-false}
 use Rattle.std.proofs.lemmas.Result.{err_from_is_err_and}
 use Rattle.sheets.specs.Faults.{Lowest}
-use Rattle.sheets.specs.Layout.{fields, legible}
+use Rattle.sheets.specs.Layout.{fields}
 use Rattle.sheets.specs.Lines.{shown}
 use Rattle.depots.specs.Tables.{tables_of}
 use Rattle.plans.specs.Fields.{First, Repeated}
@@ -10,7 +10,6 @@ use Rattle.plans.specs.Plans.{moves_of}
 use Rattle.plans.specs.Wrong.{LineWrong, most_moves, most_steps}
 use Rattle.plans.proofs.Firsts.{all_listed, repeated_fields}
 use Rattle.plans.proofs.Told.{illegible_told, many_told, no_name_told, not_listed_told, repeated_told, full_told, nothing_told}
-use Rattle.plans.proofs.step_line.read_step.Given as given
 use Rattle.plans.proofs.step_line.read_step.Goals as goal
 
 pub returns-then-not-is_legible : goal.returns-then-not-is_legible

@@ -1,12 +1,12 @@
 use Rattle.std.proofs.Common.{◌≡◌, List, Bool, Result, MatchResult, length, ap, subst}
 use Rattle.sheets.specs.declared.refusals.Refusal.{Refusal}
+use Rattle.sheets.specs.Refusals.{unplaced}
 use Rattle.sheets.proofs.Handed.{value_kept}
 use Rattle.depots.specs.Tables.{tables_of}
 use Rattle.formulas.specs.Truth.{stands_in}
 use Rattle.walkthroughs.specs.Firing.{after}
 use Rattle.walkthroughs.specs.Ruled.{ruled}
 use Rattle.walkthroughs.specs.Steps.{Accepted, StepRefused}
-use Rattle.walkthroughs.specs.Walkthroughs.{unplaced}
 use Rattle.walkthroughs.proofs.Calling.{stepped}
 use Rattle.walkthroughs.proofs.walkthrough.Walkthrough.step.Goals as goal
 
