@@ -2,9 +2,10 @@
 ghost use Rattle.std.specs.Prelude.{◌≡◌, true, false, ◌⊎◌, Some, MatchResult, is_none};
 ghost use Rattle.sheets.specs.declared.faults.Sheet.TheVariants as on;
 ghost use Rattle.sheets.specs.declared.refusals.Refusal.TheVariants.{NoGoal};
+ghost use Rattle.sheets.specs.Refusals.{unplaced};
 ghost use Rattle.depots.specs.Tables.{tables_of};
 ghost use Rattle.walkthroughs.specs.Ruled.{ruled};
-ghost use Rattle.walkthroughs.specs.Walkthroughs.{held, unplaced};
+ghost use Rattle.walkthroughs.specs.Walkthroughs.{held};
 ghost use Rattle.plans.specs.Judging.{Passed, PlanAccepted, PlanFault, StoppedAt};
 ghost use Rattle.plans.specs.Plans.{steps_of};
 

@@ -2,6 +2,7 @@
 use Rattle.std.specs.Prelude.{◌≡◌, ℕ, Bool, ◌<◌, ◌⊎◌, List, ◌++◌, length, drop, Result, MatchBool, MatchResult, ◌≢◌}
 use Rattle.sheets.specs.declared.faults.Fault.{Fault}
 use Rattle.sheets.specs.declared.refusals.Refusal.TheVariants.{BufferShort, NoMemory}
+use Rattle.sheets.specs.Refusals.{unplaced}
 use Rattle.facts.specs.Plain.{plain_same}
 use Rattle.facts.specs.Sight.{sight_carries}
 use Rattle.depots.specs.AnyDepots.{names_sight}
@@ -10,7 +11,6 @@ use Rattle.depots.specs.Spelling.{DepotRead, DepotTold}
 use Rattle.depots.specs.Tables.{Tables}
 use Rattle.walkthroughs.specs.Ruled.{ruled}
 use Rattle.walkthroughs.specs.Runs.{Held}
-use Rattle.walkthroughs.specs.Walkthroughs.{unplaced}
 use Rattle.plans.specs.Judging.{PlanAccepted, PlanFault}
 use Rattle.plans.specs.Spelling.{PlanRead, PlanTold}
 use Rattle.reports.specs.Accepted.{acceptance_report}

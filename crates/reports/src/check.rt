@@ -57,18 +57,10 @@ fn report(heap: Global, sheets: &Sheets) -> Result<Vec<u8>, AllocError>
 pub fn check(heap: Global, sheets: &Sheets, buffer: &mut [u8]) -> Result<usize, Fault>
     ensures { Checked sheets.now.depot.now sheets.now.plan.now buffer.old buffer.new result }
 {
-    let report = report(heap, sheets).map_err(|error| Fault {
-        sheet: None,
-        line: 0,
-        refusal: error.into(),
-    })?;
+    let report = report(heap, sheets).map_err(|error| Fault::unplaced(error.into()))?;
     let length = report.len();
     if buffer.len() < length {
-        return Err(Fault {
-            sheet: None,
-            line: 0,
-            refusal: Refusal::BufferShort,
-        });
+        return Err(Fault::unplaced(Refusal::BufferShort));
     }
     buffer[..length].copy_from_slice(&report);
     Ok(length)
