@@ -1,5 +1,6 @@
 pub mod Afterwards
 pub mod Among
+pub mod Contradicting
 pub mod Counts
 pub mod Disturbing
 pub mod Faulty
