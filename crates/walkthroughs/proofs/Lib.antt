@@ -1,6 +1,7 @@
 pub mod Afterwards
 pub mod Among
 pub mod Calling
+pub mod Contradicting
 pub mod Counts
 pub mod Disturbing
 pub mod Exchanging

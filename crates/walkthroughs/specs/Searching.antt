@@ -1,11 +1,17 @@
 -- The lowest of what is looked for. Assumes nothing.
-use Rattle.std.specs.Prelude.{◌≡◌, ℕ, true, false, List, [], ◌∷◌, length, Some, None, Option}
+use Rattle.std.specs.Prelude.{◌≡◌, ℕ, Bool, true, false, List, [], ◌∷◌, length, Some, None, Option}
+use Rattle.std.specs.Borrow.{Bor}
+use Rattle.std.specs.Option.{option_map}
+use Rattle.depots.specs.declared.depot.Effect.{Effect as KeptEffect}
+use Rattle.depots.specs.Tables as tables
+use Rattle.depots.specs.Tables.{Effect}
 use Rattle.sheets.specs.Faults.{NoLater}
-use Rattle.walkthroughs.specs.Depots.{Depot, Listed, State}
+use Rattle.walkthroughs.specs.Depots.{Depot, Listed, State, effect_of, move_of}
 use Rattle.walkthroughs.specs.Disturbance.{OtherAt, Otherwise, move_at}
 use Rattle.walkthroughs.specs.Firing.{after, clash, settings_at, strikes_at}
 use Rattle.walkthroughs.specs.Sets.{chosen, in_set}
 use Rattle.walkthroughs.specs.declared.contradiction.Contradiction.{Contradiction}
+use Rattle.walkthroughs.specs.declared.contradiction.Placed.{Placed}
 use Rattle.walkthroughs.specs.declared.disturbance.Disturbance.{Disturbance}
 
 -- What is found is wanted, and nothing that is wanted has a lower row of numbers; or nothing is wanted.
@@ -37,6 +43,30 @@ DisturbsAt d s t set place move x = (x.set ≡ set) × (x.place ≡ place) × (i
 -- A disturbance by a set, whether there are so many sets or not.
 abbrev pub DisturbsBy : Depot → State → List ℕ → ℕ → Disturbance → Type 0
 DisturbsBy d s moves set x = (x.set ≡ set) × OtherAt d s (after d s (chosen set moves)) moves set x.place x.part
+
+-- An effect of a step as it is found: the place of its move, its number there, and what it is.
+abbrev pub seen : Placed → ℕ × ℕ × Effect
+seen x = (x.place, x.number, tables.effect_of x.effect.now)
+
+-- The row of an effect of a step: its place, then its number.
+abbrev pub row_of_effect : ℕ × ℕ × Effect → List ℕ
+row_of_effect x = two (x.0, x.1)
+
+-- An effect of a move passes a test.
+abbrev pub PassesOf : Depot → ℕ → (Effect → Bool) → ℕ × ℕ × Effect → Type 0
+PassesOf d move passes x = Listed x.1 (length (move_of d move).effects) × (effect_of d move x.1 ≡ x.2) × (passes x.2 ≡ true)
+
+-- An effect of the move at one place passes a test.
+abbrev pub PassesIn : Depot → ℕ → ℕ → (Effect → Bool) → ℕ × ℕ × Effect → Type 0
+PassesIn d place move passes x = (x.0 ≡ place) × PassesOf d move passes x
+
+-- An effect of a step's moves passes a test.
+abbrev pub PassesAt : Depot → List ℕ → (Effect → Bool) → ℕ × ℕ × Effect → Type 0
+PassesAt d moves passes x = Listed x.0 (length moves) × PassesOf d (move_at moves x.0) passes x
+
+-- Of the effects that pass a test, the lowest is found, whatever the test is that calls answer.
+abbrev pub FindsLowest : (Bor (KeptEffect ℕ) → Bool → Type 0) → ((Effect → Bool) → ℕ × ℕ × Effect → Type 0) → Option Placed → Type 0
+FindsLowest Calls Wanted r = (passes : Effect → Bool) → ((effect : Bor (KeptEffect ℕ)) (answer : Bool) → Calls effect answer → answer ≡ passes (tables.effect_of effect.now)) → LowestBy row_of_effect (Wanted passes) (option_map seen r)
 
 -- The row of a contradiction: place and effect of the setting, then of the strike.
 abbrev pub row_of_contradiction : Contradiction → List ℕ
