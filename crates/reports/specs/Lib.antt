@@ -1,5 +1,4 @@
 pub mod Accepted
 pub mod Checked
-pub mod DepotReport
 pub mod Refused
 pub mod Written

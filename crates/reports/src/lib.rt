@@ -3,5 +3,4 @@
 
 pub mod accepted;
 pub mod check;
-pub mod depot_report;
 pub mod refused;
