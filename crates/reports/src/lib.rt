@@ -5,3 +5,4 @@ pub mod accepted;
 pub mod check;
 pub mod depot_report;
 pub mod refused;
+mod shown;
