@@ -4,3 +4,4 @@
 pub mod accepted;
 pub mod check;
 pub mod refused;
+mod shown;
