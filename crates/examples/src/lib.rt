@@ -8,6 +8,8 @@ mod fact_fields;
 #[cfg(test)]
 mod full_sheets;
 #[cfg(test)]
+mod pairs;
+#[cfg(test)]
 mod sheet_rows;
 #[cfg(test)]
 mod shown_lines;
