@@ -8,6 +8,8 @@ mod fact_fields;
 #[cfg(test)]
 mod layouts;
 #[cfg(test)]
+mod plan_sheets;
+#[cfg(test)]
 mod shown_lines;
 #[cfg(test)]
 mod verdicts;
