@@ -1,5 +1,5 @@
-// Plan sheets with what the rules say of each, worked out by hand: the moves of each step, by their numbers, or the line, the
-// number and the field of the refusal, 0 where unused.
+// Plan sheets with what the rules say of each, worked out by hand: the moves of each step, by their numbers, or the line,
+// the number and the field of the refusal, 0 where unused.
 use crate::verdicts::Verdict;
 use depots::depot::Depot;
 use facts::plain::Plain;
