@@ -12,6 +12,8 @@ mod replies;
 #[cfg(test)]
 mod sheet_rows;
 #[cfg(test)]
+mod plan_sheets;
+#[cfg(test)]
 mod shown_lines;
 #[cfg(test)]
 mod verdicts;
