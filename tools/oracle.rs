@@ -1,13 +1,12 @@
 //! Judges sheets by a reading of docs/ of its own, to be compared with what `restart` prints.
 //!
-//!     rustc -O tools/oracle.rs -o target/oracle
+//!     rustc --edition 2021 -O tools/oracle.rs -o target/oracle
 //!     target/oracle FOLDER              the report on FOLDER/depot.tsv and FOLDER/plan.tsv
 //!     target/oracle calls DEPOT CALLS   the answers to a file of calls: `step N..`, `truth N`, `look N`, one a line
 
 mod judge;
 
-use judge::refusals::Reason;
-use judge::walkthrough::{Call, Reply, Walkthrough};
+use judge::walkthrough::{told, Call, Walkthrough};
 use judge::{check, depot_sheet};
 use std::io::Write;
 use std::path::Path;
@@ -62,14 +61,5 @@ fn call(line: &str) -> Result<Call, String> {
         ("truth", [formula]) => Ok(Call::Truth(*formula)),
         ("look", [fact]) => Ok(Call::Look(*fact)),
         _ => Err(wrong()),
-    }
-}
-
-fn told(answer: Result<Reply, Reason>) -> String {
-    match answer {
-        Ok(Reply::Changed(facts)) => format!("ok {facts}"),
-        Ok(Reply::Yes) => "y".to_string(),
-        Ok(Reply::No) => "n".to_string(),
-        Err(reason) => reason.told(" "),
     }
 }

@@ -4,6 +4,7 @@ use super::depot::Depot;
 use super::refusals::Reason;
 use super::steps::{after, is_true, judge, Standing};
 
+#[derive(Clone)]
 pub struct Walkthrough {
     standing: Standing,
 }
@@ -60,5 +61,15 @@ impl Walkthrough {
             Call::Truth(formula) => self.truth(depot, *formula).map(told),
             Call::Look(fact) => self.look(depot, *fact).map(told),
         }
+    }
+}
+
+/// An answer as it is printed: `ok` and a count, `y`, `n`, or `NO`, the number and four details.
+pub fn told(answer: Result<Reply, Reason>) -> String {
+    match answer {
+        Ok(Reply::Changed(facts)) => format!("ok {facts}"),
+        Ok(Reply::Yes) => "y".to_string(),
+        Ok(Reply::No) => "n".to_string(),
+        Err(reason) => reason.told(" "),
     }
 }
