@@ -1,6 +1,6 @@
 //! Compares what the programs print with a checker of its own, on sheets and calls made at random.
 //!
-//!     rustc --edition 2021 -O tools/compare.rs -o target/compare
+//!     rustc -O tools/compare.rs -o target/compare
 //!     target/compare --pairs 20000
 //!
 //! A difference is shown with its seed: `--seed S --pairs 1 --keep FOLDER` makes the same sheets again and keeps them.

@@ -1,6 +1,6 @@
 //! Judges sheets by a reading of docs/ of its own, to be compared with what `restart` prints.
 //!
-//!     rustc --edition 2021 -O tools/oracle.rs -o target/oracle
+//!     rustc -O tools/oracle.rs -o target/oracle
 //!     target/oracle FOLDER              the report on FOLDER/depot.tsv and FOLDER/plan.tsv
 //!     target/oracle calls DEPOT CALLS   the answers to a file of calls: `step N..`, `truth N`, `look N`, one a line
 

@@ -28,7 +28,7 @@ impl Drop for Scratch {
 pub fn report(program: &Path, scratch: &Scratch, depot: &[u8], plan: &[u8], seed: u64) -> Result<Vec<u8>, Error> {
     for (name, sheet) in [("depot.tsv", depot), ("plan.tsv", plan)] {
         let path = scratch.0.join(name);
-        if sheet.is_empty() && seed % 2 == 0 {
+        if sheet.is_empty() && seed.is_multiple_of(2) {
             match std::fs::remove_file(&path) {
                 Err(why) if why.kind() != std::io::ErrorKind::NotFound => return Err(why),
                 _ => continue,

@@ -76,5 +76,5 @@ fn shown_disturbance(random: &mut Random, depot: &Depot, walkthrough: &Walkthrou
     let formula = disturbed.and_then(|number| depot.move_with(number)).map_or(0, |listed| listed.need + part);
     let ask = Call::Truth(formula);
     let singles = chosen.into_iter().map(|number| Call::Step(vec![number]));
-    [Call::Step(step), ask.clone()].into_iter().chain(singles).chain([ask]).collect()
+    vec![Call::Step(step), ask.clone()].into_iter().chain(singles).chain(Some(ask)).collect()
 }

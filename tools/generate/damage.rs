@@ -13,7 +13,8 @@ pub fn damage(random: &mut Random, sheet: &mut Vec<u8>) {
         3 => sheet.truncate(random.below(sheet.len() + 1)),
         4 => drop_end(sheet),
         5..=8 => damage_lines(random, sheet),
-        9..=14 => change_field(random, sheet),
+        9..=11 => change_field(random, sheet),
+        12..=14 => change_parts(random, sheet),
         _ => with_office_ends(random, sheet),
     }
 }
@@ -156,3 +157,41 @@ const ODD_FIELDS: &[&[u8]] = &[
     b"plain",
     b"k",
 ];
+
+/// Changes one to six of the names and facts of a line, so that several troubles meet in it.
+fn change_parts(random: &mut Random, sheet: &mut Vec<u8>) {
+    let mut lines = lines_of(sheet);
+    let Some(number) = a_long_line(random, &lines) else { return };
+    let Some(line) = lines.get_mut(number) else { return };
+    let is_part = |byte: &u8| byte.is_ascii_lowercase() || byte.is_ascii_digit() || *byte == b'.';
+    for _ in 0..random.between(1, 6) {
+        let start = random.below(line.len());
+        let from = line[..start].iter().rposition(|byte| !is_part(byte)).map_or(0, |index| index + 1);
+        let length = line[from..].iter().take_while(|&byte| is_part(byte)).count();
+        let part = line[from..from + length].to_vec();
+        line.splice(from..from + length, changed_part(random, &part));
+    }
+    *sheet = joined(&lines);
+}
+
+/// The index of a line, likely one with a list of facts or a formula in brackets.
+fn a_long_line(random: &mut Random, lines: &[Vec<u8>]) -> Option<usize> {
+    let any: Vec<usize> = (0..lines.len()).collect();
+    let is_long = |index: &usize| lines.get(*index).is_some_and(|line| line.contains(&b',') || line.contains(&b'&'));
+    let long: Vec<usize> = any.iter().copied().filter(is_long).collect();
+    let among = if long.is_empty() || random.percent(20) { &any } else { &long };
+    random.pick(among).copied()
+}
+
+/// A part that has no form, one that is not listed, or the part with a watcher in front.
+fn changed_part(random: &mut Random, part: &[u8]) -> Vec<u8> {
+    let first = part.split(|&byte| byte == b'.').next().unwrap_or_default();
+    match random.below(9) {
+        0..=2 => b"Odd".to_vec(),
+        3..=4 => b"unlisted".to_vec(),
+        5 => [b"all.", part].concat(),
+        6 => [first, b".", part].concat(),
+        7 => [first, b".all.", part].concat(),
+        _ => [b"all.all.", part].concat(),
+    }
+}

@@ -5,10 +5,10 @@ use super::random::Random;
 
 pub fn any_depot(random: &mut Random) -> Draft {
     match random.below(100) {
-        0..=29 => plain(random),
-        30..=64 => sight(random),
-        65..=79 => gossip(random),
-        80..=91 => toggles(random),
+        0..=24 => plain(random),
+        25..=56 => sight(random),
+        57..=68 => gossip(random),
+        69..=77 => toggles(random),
         _ => many_conditions(random),
     }
 }
@@ -78,8 +78,9 @@ fn any_effect(random: &mut Random, draft: &Draft) -> DraftEffect {
         _ => short_formula(random, &draft.facts),
     };
     let (settings, strikes) = match random.below(10) {
-        0..=4 => (2, 0),
-        5..=7 => (0, 2),
+        0..=3 => (2, 0),
+        4..=6 => (0, 2),
+        7 => (8, 0),
         _ => (3, 2),
     };
     let mut settings = random.some_of(&draft.facts, settings);
@@ -130,20 +131,36 @@ fn toggles(random: &mut Random) -> Draft {
     Draft { kind: "plain", facts: matters.clone(), started, matters, moves, goal: "()".to_string(), ..Draft::default() }
 }
 
-/// Moves that each set a fact of their own, and some whose conditions ask after several of these at once.
+/// Moves that each set a fact of their own, and moves that ask after several of these at once: only some of the first,
+/// done together, disturb one of the second.
 fn many_conditions(random: &mut Random) -> Draft {
-    let count = random.between(3, 8);
-    let matters = names(random, count);
+    let (setters, askers) = (random.between(2, 8), random.between(1, 4));
+    let matters = names(random, setters + askers);
     let started = if random.percent(30) { random.some_of(&matters, 1) } else { Vec::new() };
-    let sets =
-        |fact: &String, condition: String| DraftEffect { condition, settings: vec![fact.clone()], strikes: Vec::new() };
+    let (asked, own) = matters.split_at(setters);
     let mut moves = Vec::new();
-    for (name, fact) in names(random, count).into_iter().zip(&matters) {
-        let others = random.some_of(&matters, 4);
-        let both = format!("({})", others.join("&"));
-        let condition = if random.percent(70) { "()".to_string() } else { both.clone() };
-        let need = if random.percent(85) { "()".to_string() } else { format!("!{both}") };
-        moves.push(DraftMove { name, need, effects: vec![sets(fact, condition)] });
+    for (name, fact) in names(random, setters + askers).into_iter().zip(&matters) {
+        let asks = own.contains(fact);
+        let question = question(random, asked);
+        let question = if random.percent(20) { format!("!{question}") } else { question };
+        let condition = if asks { question.clone() } else { "()".to_string() };
+        let need = if asks && random.percent(25) { format!("!{question}") } else { "()".to_string() };
+        let effect = DraftEffect { condition, settings: vec![fact.clone()], strikes: Vec::new() };
+        moves.push(DraftMove { name, need, effects: vec![effect] });
     }
+    random.shuffle(&mut moves);
     Draft { kind: "plain", facts: matters.clone(), matters, started, moves, goal: "()".to_string(), ..Draft::default() }
+}
+
+/// Whether some of the facts stand all at once: one, two or up to six of them.
+fn question(random: &mut Random, asked: &[String]) -> String {
+    let count = match random.below(10) {
+        0..=3 => 1,
+        4..=7 => 2,
+        _ => random.between(3, 6),
+    };
+    let mut facts = asked.to_vec();
+    random.shuffle(&mut facts);
+    facts.truncate(count);
+    format!("({})", facts.join("&"))
 }

@@ -50,14 +50,29 @@ fn small_sight(random: &mut Random, zones: usize) -> Draft {
     Draft { kind: "sight", zones, ..small(random, 3) }
 }
 
+/// Now and then the last of a list has a trouble of its own: it has no form, is there twice, or is always true.
+fn trouble_the_last(random: &mut Random, list: &mut [String]) {
+    let first = list.first().cloned().unwrap_or_default();
+    let Some(last) = list.last_mut().filter(|_| random.percent(30)) else { return };
+    *last = match random.below(3) {
+        0 => "Odd".to_string(),
+        1 => first,
+        _ => format!("all.all.{}", last.rsplit('.').next().unwrap_or_default()),
+    };
+}
+
 fn zones(random: &mut Random, count: usize) -> Draft {
-    small_sight(random, count)
+    let mut draft = small_sight(random, count);
+    trouble_the_last(random, &mut draft.zones);
+    draft
 }
 
 fn matters(random: &mut Random, count: usize) -> Draft {
     let mut draft = small(random, count);
     draft.facts.truncate(64);
-    draft.started.retain(|fact| draft.facts.contains(fact));
+    let facts = &draft.facts;
+    draft.started.retain(|fact| facts.contains(fact));
+    trouble_the_last(random, &mut draft.matters);
     draft
 }
 
@@ -80,6 +95,7 @@ fn facts(random: &mut Random, count: usize) -> Draft {
         }
     }
     draft.started = draft.facts.iter().filter(|_| longest || random.percent(90)).cloned().collect();
+    trouble_the_last(random, &mut draft.facts);
     draft
 }
 
@@ -186,8 +202,9 @@ fn watchers(random: &mut Random, count: usize) -> Draft {
 /// A need with so many `!` and brackets inside one another.
 fn depth(random: &mut Random, count: usize) -> Draft {
     let mut draft = small(random, 3);
-    let mut need = random.pick(&draft.facts).cloned().unwrap_or_default();
-    for _ in 0..count {
+    let empty = random.percent(40);
+    let mut need = if empty { "()".to_string() } else { random.pick(&draft.facts).cloned().unwrap_or_default() };
+    for _ in usize::from(empty)..count {
         need = if random.percent(50) { format!("!{need}") } else { format!("({need})") };
     }
     if let Some(first) = draft.moves.first_mut() {

@@ -15,7 +15,7 @@ pub fn pair(seed: u64) -> Pair {
     let mut draft = if random.percent(15) { limits::any_limit(random) } else { families::any_depot(random) };
     let mut plan = plans::plan(random, &mut draft);
     if random.percent(14) {
-        plans::spoil(random, &mut plan);
+        (0..random.between(1, 3)).for_each(|_| plans::spoil(random, &mut plan));
     }
     let mut pair = Pair { depot: draft.sheet(), plan: plans::sheet(&plan) };
     if random.percent(20) {

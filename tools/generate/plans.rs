@@ -90,14 +90,8 @@ fn set_goal(random: &mut Random, draft: &mut Draft, walkthrough: &Walkthrough, w
 pub fn spoil(random: &mut Random, plan: &mut Plan) {
     match random.below(7) {
         0 => add_steps(random, plan),
-        1 => replace_a_name(random, plan, "all".to_string()),
-        2 => replace_a_name(random, plan, String::new()),
-        3 => {
-            let length = random.between(1, 10);
-            let unlisted = name(random, length);
-            replace_a_name(random, plan, unlisted);
-        }
-        4 => repeat_a_name(random, plan),
+        1..=2 => replace_a_name(random, plan),
+        3..=4 => repeat_a_name(random, plan),
         5 => lengthen_a_step(random, plan),
         _ => {
             let place = random.below(plan.len() + 1);
@@ -114,14 +108,27 @@ fn add_steps(random: &mut Random, plan: &mut Plan) {
         let Some(step) = random.pick(&steps).cloned() else { return };
         plan.push(step);
     }
+    if random.percent(40) {
+        if let Some(name) = plan.last_mut().and_then(|step| step.last_mut()) {
+            *name = odd_name(random);
+        }
+    }
 }
 
-fn replace_a_name(random: &mut Random, plan: &mut Plan, new: String) {
+/// A name that is none, or that is likely not to be listed.
+fn odd_name(random: &mut Random) -> String {
+    let odd = ["", "all", "A", "a.b", "ninebytes", "()"];
+    let length = random.between(1, 8);
+    let unlisted = name(random, length);
+    random.pick(&odd).filter(|_| random.percent(70)).map_or(unlisted, |odd| odd.to_string())
+}
+
+fn replace_a_name(random: &mut Random, plan: &mut Plan) {
     let line = random.below(plan.len());
     let Some(step) = plan.get_mut(line) else { return };
     let place = random.below(step.len());
     if let Some(old) = step.get_mut(place) {
-        *old = new;
+        *old = odd_name(random);
     }
 }
 
@@ -144,8 +151,7 @@ fn lengthen_a_step(random: &mut Random, plan: &mut Plan) {
     let Some(step) = plan.get_mut(line) else { return };
     while step.len() < most {
         let listed = random.pick(&names).cloned();
-        let length = random.between(1, 8);
-        let new = listed.filter(|name| !step.contains(name)).unwrap_or_else(|| name(random, length));
+        let new = listed.filter(|name| !step.contains(name)).unwrap_or_else(|| odd_name(random));
         step.push(new);
     }
 }

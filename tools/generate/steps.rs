@@ -72,12 +72,50 @@ pub fn accepted(random: &mut Random, depot: &Depot, walkthrough: &Walkthrough) -
 }
 
 /// A step that comes to what is wanted, if some tries find one. Its moves are shuffled, so that details differ.
+/// Half of those that are disturbed are shuffled so that the set that is named has many places.
 pub fn aimed(random: &mut Random, depot: &Depot, walkthrough: &Walkthrough, aim: Aim) -> Option<Vec<usize>> {
     (0..12).find_map(|_| {
         let (mut step, found) = grow(random, depot, walkthrough, aim);
+        if found && random.percent(50) {
+            add_others(random, depot, walkthrough, aim, &mut step);
+        }
         random.shuffle(&mut step);
+        if found && aim == Aim::Disturbed && random.percent(50) {
+            step = with_most_places(random, depot, walkthrough, step);
+        }
         found.then_some(step)
     })
+}
+
+/// Of some orders of a step's moves the one in which most places are in the set that a refusal names.
+fn with_most_places(random: &mut Random, depot: &Depot, walkthrough: &Walkthrough, mut step: Vec<usize>) -> Vec<usize> {
+    let places = |moves: &[usize]| match outcome(depot, walkthrough, moves) {
+        Err(Reason::Disturbed { set, .. }) => set.count_ones(),
+        _ => 0,
+    };
+    let mut best = step.clone();
+    for _ in 0..10 {
+        random.shuffle(&mut step);
+        if places(&step) > places(&best) {
+            best = step.clone();
+        }
+    }
+    best
+}
+
+/// Adds moves with which the step still comes to what is wanted, so that it does so for several reasons.
+fn add_others(random: &mut Random, depot: &Depot, walkthrough: &Walkthrough, aim: Aim, step: &mut Vec<usize>) {
+    let mut others: Vec<usize> = (1..=depot.moves.len()).filter(|number| !step.contains(number)).collect();
+    random.shuffle(&mut others);
+    for number in others {
+        if step.len() >= MOST_MOVES {
+            return;
+        }
+        step.push(number);
+        if !outcome(depot, walkthrough, step).is_err_and(|reason| aim.is_met_by(reason)) {
+            step.pop();
+        }
+    }
 }
 
 /// Any moves that are listed, none twice; at most eight.

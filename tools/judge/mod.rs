@@ -1,4 +1,5 @@
-//! A restart checker of its own, written from docs/ alone: each module follows the words of a page, with no thought of speed.
+//! A restart checker of its own, written from docs/ alone. Each module follows the words of a page, with no thought of
+//! speed.
 
 pub mod check;
 pub mod depot;
