@@ -1,5 +1,5 @@
 // What others see of a depot: its tables, by number.
-ghost use Rattle.std.specs.Prelude.{◌≡◌, map, length, is_none};
+ghost use Rattle.std.specs.Prelude.{◌≡◌, map, length};
 ghost use Rattle.std.specs.Option.{option_map};
 ghost use Rattle.formulas.specs.Shapes.{numbers};
 ghost use Rattle.sheets.specs.Numbered.{entry_at};
@@ -9,14 +9,15 @@ ghost use Rattle.depots.specs.Tables.{effect_of, tables_of};
 use crate::depot::{Depot, Effect};
 use facts::kinds::Kind;
 use formulas::tree::Formula;
+use sheets::listed::Name;
 use sheets::numbered::entry_at;
 
 impl<K: Kind> Depot<K> {
-    // Whether nothing was read into the depot: it has no goal.
-    pub fn is_empty(&self) -> bool
-        ensures { result ≡ is_none (tables_of self.now).goal }
+    // The formula number of the goal, if the depot has one: an empty one has none.
+    pub fn goal(&self) -> Option<usize>
+        ensures { result ≡ (tables_of self.now).goal }
     {
-        self.goal.is_none()
+        self.goal
     }
 
     // The listed facts.
@@ -31,6 +32,13 @@ impl<K: Kind> Depot<K> {
         ensures { option_map (λ x. x.now) result ≡ entry_at (tables_of self.now).facts number }
     {
         entry_at(&self.facts, number)
+    }
+
+    // The facts' texts, in the order of the facts.
+    pub fn texts(&self) -> &[Name]
+        ensures { result.now ≡ (tables_of self.now).texts }
+    {
+        &self.texts
     }
 
     // The numbers of the started facts.

@@ -1,4 +1,5 @@
 pub mod Fields
+pub mod Judging
 pub mod Laws
 pub mod Plans
 pub mod Spelling

@@ -4,4 +4,5 @@
 pub mod laws;
 pub mod plan;
 pub mod plan_reader;
+pub mod runner;
 mod step_line;

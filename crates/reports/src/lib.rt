@@ -1,5 +1,7 @@
 // What the checker prints.
 #![tactic(auto)]
 
+pub mod accepted;
+pub mod check;
 pub mod depot_report;
 pub mod refused;

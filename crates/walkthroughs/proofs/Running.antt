@@ -48,7 +48,7 @@ passes-closed d law s t [] closed p = rw p closed
 passes-closed d law s t (moves ∷ steps) closed p = passes-closed d law (after d s moves) t steps (closed_after d law s moves closed) p.1
 
 -- steps that pass are a run in which all are accepted
-passes-sent : (d : Depot) (h left : Held) (steps : List (List ℕ)) → Passes d h.stands steps left.stands → AllAccepted d h steps left
+pub passes-sent : (d : Depot) (h left : Held) (steps : List (List ℕ)) → Passes d h.stands steps left.stands → AllAccepted d h steps left
 passes-sent d h left [] p = record { answers = []; ran = p; each = tt }
 passes-sent d h left (moves ∷ steps) p = first (passes-sent d (record { stands = after d h.stands moves }) left steps p.1)
   where

@@ -1,6 +1,7 @@
 // The calls of a walkthrough. None of them allocates, and none trusts its caller: any depot may be shown, and any number.
 ghost use Rattle.std.specs.Prelude.{◌≡◌};
 ghost use Rattle.depots.specs.Tables.{tables_of};
+ghost use Rattle.walkthroughs.specs.Depots.{truth_of};
 ghost use Rattle.walkthroughs.specs.Ruled.{ruled};
 ghost use Rattle.walkthroughs.specs.Runs.{Answered};
 ghost use Rattle.walkthroughs.specs.Runs.Answer.{accepted, told};
@@ -48,6 +49,18 @@ impl Walkthrough {
             .formula_at(number)
             .ok_or(Fault::unplaced(Refusal::UnknownNumber))?;
         Ok(truth(formula, &self.marks.row()))
+    }
+
+    // Whether the goal is true. An empty depot asks nothing, so there it is.
+    pub fn meets_goal<K: Kind>(&self, depot: &Depot<K>) -> bool
+        ensures { let d = ruled K.carrying (tables_of depot.now) in result ≡ truth_of d (held self.now).stands d.goal }
+    {
+        let row = self.marks.row();
+        let moment = Moment { depot, row: &row };
+        match depot.goal() {
+            None => true,
+            Some(goal) => moment.is_true(goal),
+        }
     }
 
     // Does the moves with some numbers together, in no known order, if no order could matter: the facts that they add and
