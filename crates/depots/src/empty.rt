@@ -1,5 +1,5 @@
 // An empty depot: one that was never filled, or whose sheet was refused.
-ghost use Rattle.std.specs.Prelude.{◌≡◌};
+ghost use Rattle.std.specs.Prelude.{◌≡◌, is_none};
 ghost use Rattle.depots.specs.Tables.{kept_effects, no_tables, tables_of};
 
 use crate::depot::Depot;
@@ -28,5 +28,12 @@ impl<K: Kind> Depot<K> {
             formula_size: 0,
             goal: None,
         }
+    }
+
+    // Whether nothing was read into the depot: it has no goal.
+    pub fn is_empty(&self) -> bool
+        ensures { result ≡ is_none (tables_of self.now).goal }
+    {
+        self.goal.is_none()
     }
 }

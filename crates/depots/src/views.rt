@@ -1,5 +1,5 @@
 // What others see of a depot: its tables, by number.
-ghost use Rattle.std.specs.Prelude.{◌≡◌, map, length, is_none};
+ghost use Rattle.std.specs.Prelude.{◌≡◌, map, length};
 ghost use Rattle.std.specs.Option.{option_map};
 ghost use Rattle.formulas.specs.Shapes.{numbers};
 ghost use Rattle.sheets.specs.Numbered.{entry_at};
@@ -13,13 +13,6 @@ use sheets::listed::Name;
 use sheets::numbered::entry_at;
 
 impl<K: Kind> Depot<K> {
-    // Whether nothing was read into the depot: it has no goal.
-    pub fn is_empty(&self) -> bool
-        ensures { result ≡ is_none (tables_of self.now).goal }
-    {
-        self.goal.is_none()
-    }
-
     // The formula number of the goal, if the depot has one: an empty one has none.
     pub fn goal(&self) -> Option<usize>
         ensures { result ≡ (tables_of self.now).goal }

@@ -8,8 +8,16 @@ mod fact_fields;
 #[cfg(test)]
 mod full_sheets;
 #[cfg(test)]
+mod pairs;
+#[cfg(test)]
+mod replies;
+#[cfg(test)]
 mod sheet_rows;
+#[cfg(test)]
+mod plan_sheets;
 #[cfg(test)]
 mod shown_lines;
 #[cfg(test)]
 mod verdicts;
+#[cfg(test)]
+mod worked_calls;

@@ -1,5 +1,5 @@
 -- Which of the things that are wrong with a line of a plan sheet is told. Assumes nothing.
-use Rattle.std.proofs.Common.{◌≡◌, ℕ, ◌<◌, ◌≤◌, true, false, List, [], ◌∷◌, length, Some, None, Err, Option, ok_or, sym, refl, ap, inl, inr, ⊎_elim, arith}
+use Rattle.std.proofs.Common.{◌≡◌, ℕ, ◌<◌, ◌≤◌, true, false, List, [], ◌∷◌, length, Some, None, Err, Option, Result, ok_or, sym, refl, ap, ◌∙◌, inl, inr, ⊎_elim, arith}
 use Rattle.std.specs.Result.{result_err}
 use Rattle.std.proofs.lemmas.Bool.{both_ways, cases_lt}
 use Rattle.std.proofs.lemmas.Option.{none-some, same_Some}
@@ -18,10 +18,10 @@ use Rattle.plans.specs.Wrong.LineWrong.{illegible, too_many, no_name, unlisted, 
 by_field : (reason n k : ℕ) → n ≤ k → NoLater (reason ∷ n ∷ 0 ∷ 0 ∷ 0 ∷ []) (reason ∷ k ∷ 0 ∷ 0 ∷ 0 ∷ [])
 by_field reason n k no_more = inr (refl, ⊎_elim (λ (less : n < k). inl less) (λ (same : k ≤ n). inr (omega arith, no_later_itself (0 ∷ 0 ∷ 0 ∷ []))) (cases_lt n k))
 
--- a field that names no listed move was refused
-pub unlisted_told : (o : Option ℕ) (n : ℕ) (w : Refusal) → Err w ≡ ok_or o (NotListed n) → (o ≡ None) × (w ≡ NotListed n)
-unlisted_told None n w is = (refl, same_Some w (NotListed n) (ap result_err is))
-unlisted_told (Some m) n w is = absurd (none-some w (sym (ap result_err is)))
+-- a name that was refused is that of no listed move
+pub unlisted_told : (o : Option ℕ) (n : ℕ) (r : Result ℕ Refusal) (w : Refusal) → r ≡ Err w → r ≡ ok_or o (NotListed n) → (o ≡ None) × (w ≡ NotListed n)
+unlisted_told None n r w is told = (refl, same_Some w (NotListed n) (ap result_err (sym is ∙ told)))
+unlisted_told (Some m) n r w is told = absurd (none-some w (ap result_err (sym told ∙ is)))
 
 module _ (names : List (List ℕ)) (above : ℕ) (l : Line) where
   -- a case for each reason

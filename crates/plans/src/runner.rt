@@ -50,7 +50,8 @@ pub fn run_plan<K: Kind>(depot: &Depot<K>, plan: &Plan) -> Result<Walkthrough, F
     Ok(walkthrough)
 }
 
-// The goal, asked of a walkthrough that stands after the last step of a plan. Where it is false, the line is that step's.
+// Asks the goal of a walkthrough that stands after the last step of a plan. A false one is told with the line of that step,
+// which is how many steps there are.
 fn judge_goal<K: Kind>(
     walkthrough: &Walkthrough,
     depot: &Depot<K>,

@@ -31,7 +31,8 @@ fn no_name(text: &[u8]) -> Option<usize>
         .map(|before| before + 1)
 }
 
-// The moves that the fields of a line name, or the first field that names none. The text is cut by hand, as a list of facts is.
+// The moves that the fields of a line name, or the first field that names none. The text is cut by hand, as that of a list
+// of facts is, since the check refuses a `for` over `split` in a function with a type parameter.
 fn named_moves<K: Kind>(depot: &Depot<K>, text: &[u8]) -> Result<Step, Refusal>
     requires { length (pieces 9 text.now) ≤ 8 }
     ensures { MatchResult result (λ step. NameMoves (tables_of depot.now).names (pieces 9 text.now) (moves_of step)) (λ w. (field : ℕ) × (w ≡ NotListed field) × First (Unlisted (tables_of depot.now).names (pieces 9 text.now)) (Some field)) }

@@ -31,7 +31,11 @@ fn told(heap: Global, sheets: &Sheets, fault: &Fault) -> Result<Vec<u8>, AllocEr
 }
 
 // The report on a plan sheet, for a depot that is read.
-fn report_on_plan<K: TextKind>(heap: Global, depot: &Depot<K>, sheets: &Sheets) -> Result<Vec<u8>, AllocError>
+fn report_on_plan<K: TextKind>(
+    heap: Global,
+    depot: &Depot<K>,
+    sheets: &Sheets,
+) -> Result<Vec<u8>, AllocError>
     requires { DepotRead (meaning_of K.Kind K.reading_under) sheets.now.depot.now (tables_of depot.now) }
     ensures { IfOk result (λ v. ReportOf (meaning_of K.Kind K.reading_under) K.carrying sheets.now.depot.now sheets.now.plan.now v.items) }
 {

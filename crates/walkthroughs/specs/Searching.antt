@@ -5,14 +5,16 @@ use Rattle.std.specs.Option.{option_map}
 use Rattle.depots.specs.declared.depot.Effect.{Effect as KeptEffect}
 use Rattle.depots.specs.Tables as tables
 use Rattle.depots.specs.Tables.{Effect}
+use Rattle.formulas.specs.Truth.{stands_in}
 use Rattle.sheets.specs.Faults.{NoLater}
 use Rattle.walkthroughs.specs.Depots.{Depot, Listed, State, effect_of, move_of}
 use Rattle.walkthroughs.specs.Disturbance.{OtherAt, Otherwise, move_at}
-use Rattle.walkthroughs.specs.Firing.{after, clash, settings_at, strikes_at}
+use Rattle.walkthroughs.specs.Firing.{after, any, clash, fires, settings_at, strikes_at}
 use Rattle.walkthroughs.specs.Sets.{chosen, in_set}
 use Rattle.walkthroughs.specs.declared.contradiction.Contradiction.{Contradiction}
 use Rattle.walkthroughs.specs.declared.contradiction.Placed.{Placed}
 use Rattle.walkthroughs.specs.declared.disturbance.Disturbance.{Disturbance}
+use Rattle.walkthroughs.specs.declared.firing.Outcome.{Outcome}
 
 -- What is found is wanted, and nothing that is wanted has a lower row of numbers; or nothing is wanted.
 abbrev pub LowestBy : {X : Type 0} → (X → List ℕ) → (X → Type 0) → Option X → Type 0
@@ -67,6 +69,22 @@ PassesAt d moves passes x = Listed x.0 (length moves) × PassesOf d (move_at mov
 -- Of the effects that pass a test, the lowest is found, whatever the test is that calls answer.
 abbrev pub FindsLowest : (Bor (KeptEffect ℕ) → Bool → Type 0) → ((Effect → Bool) → ℕ × ℕ × Effect → Type 0) → Option Placed → Type 0
 FindsLowest Calls Wanted r = (passes : Effect → Bool) → ((effect : Bor (KeptEffect ℕ)) (answer : Bool) → Calls effect answer → answer ≡ passes (tables.effect_of effect.now)) → LowestBy row_of_effect (Wanted passes) (option_map seen r)
+
+-- Some move of a step removes a fact.
+abbrev pub is_removed : List Outcome → ℕ → Bool
+is_removed outcomes f = any (λ o. stands_in o.removes f) outcomes
+
+-- One of some settings carries a strike.
+abbrev pub is_carried : Depot → List ℕ → ℕ → Bool
+is_carried d settings f = any (λ g. d.carries g f) settings
+
+-- An effect sets a fact that some move removes, if it fires.
+abbrev pub sets_removed : Depot → State → List Outcome → Effect → Bool
+sets_removed d s outcomes e = any (is_removed outcomes) (fires d s (λ x. x.settings) e)
+
+-- An effect strikes a fact that one of some settings carries, if it fires.
+abbrev pub strikes_carried : Depot → State → List ℕ → Effect → Bool
+strikes_carried d s settings e = any (is_carried d settings) (fires d s (λ x. x.strikes) e)
 
 -- The row of a contradiction: place and effect of the setting, then of the strike.
 abbrev pub row_of_contradiction : Contradiction → List ℕ

@@ -1,11 +1,10 @@
 // Whether a step contradicts itself: the lowest setting and strike that do.
 ghost use Rattle.std.specs.Prelude.{◌≡◌, ◌+◌, ◌<◌, ◌^◌};
 ghost use Rattle.depots.specs.Tables.{effect_of};
-ghost use Rattle.formulas.specs.Truth.{stands_in};
-ghost use Rattle.walkthroughs.specs.Firing.{any, fires};
+ghost use Rattle.walkthroughs.specs.Firing.{any};
 ghost use Rattle.walkthroughs.specs.Moments.{at, depot_of};
 ghost use Rattle.walkthroughs.specs.Outcomes.{AreOutcomes};
-ghost use Rattle.walkthroughs.specs.Searching.{Contradicts, FindsLowest, LowestBy, PassesAt, PassesIn, row_of_contradiction};
+ghost use Rattle.walkthroughs.specs.Searching.{Contradicts, FindsLowest, LowestBy, PassesAt, PassesIn, is_carried, is_removed, row_of_contradiction, sets_removed, strikes_carried};
 
 use crate::firing::Outcome;
 use crate::moment::Moment;
@@ -33,7 +32,7 @@ struct Placed<'a> {
 
 // Whether some move of a step removes a fact.
 fn is_removed(outcomes: &[Outcome], fact: usize) -> bool
-    ensures { result ≡ any (λ o. stands_in o.removes fact) outcomes.now }
+    ensures { result ≡ is_removed outcomes.now fact }
 {
     outcomes
         .iter()
@@ -42,7 +41,7 @@ fn is_removed(outcomes: &[Outcome], fact: usize) -> bool
 
 // Whether some move of a step removes one of some facts.
 fn some_removed(outcomes: &[Outcome], facts: &[usize]) -> bool
-    ensures { result ≡ any (λ f. any (λ o. stands_in o.removes f) outcomes.now) facts.now }
+    ensures { result ≡ any (is_removed outcomes.now) facts.now }
 {
     facts.iter().any(|&fact| is_removed(outcomes, fact))
 }
@@ -52,15 +51,15 @@ impl<K: Kind> Moment<'_, K> {
     fn carries(&self, number: usize, other: usize) -> bool
         ensures { result ≡ (depot_of self.now).carries number other }
     {
-        match (self.depot.fact_at(number), self.depot.fact_at(other)) {
-            (Some(fact), Some(other)) => K::carries(fact, other),
-            _ => false,
-        }
+        self.depot
+            .fact_at(number)
+            .zip(self.depot.fact_at(other))
+            .is_some_and(|(fact, other)| K::carries(fact, other))
     }
 
     // Whether one of some settings carries a strike.
     fn is_carried(&self, settings: &[usize], strike: usize) -> bool
-        ensures { result ≡ any (λ g. (depot_of self.now).carries g strike) settings.now }
+        ensures { result ≡ is_carried (depot_of self.now) settings.now strike }
     {
         settings
             .iter()
@@ -69,7 +68,7 @@ impl<K: Kind> Moment<'_, K> {
 
     // Whether one of some settings carries one of some strikes.
     fn some_carried(&self, settings: &[usize], strikes: &[usize]) -> bool
-        ensures { result ≡ any (λ f. any (λ g. (depot_of self.now).carries g f) settings.now) strikes.now }
+        ensures { result ≡ any (is_carried (depot_of self.now) settings.now) strikes.now }
     {
         strikes
             .iter()
@@ -79,14 +78,14 @@ impl<K: Kind> Moment<'_, K> {
     // Whether an effect fires and sets a fact that some move removes. The condition is read last: to look settings up is
     // cheaper.
     fn sets_removed(&self, outcomes: &[Outcome], effect: &Effect) -> bool
-        ensures { result ≡ any (λ g. any (λ o. stands_in o.removes g) outcomes.now) (at self.now fires (λ e. e.settings) (effect_of effect.now)) }
+        ensures { result ≡ at self.now sets_removed outcomes.now (effect_of effect.now) }
     {
         some_removed(outcomes, effect.settings()) && self.is_true(effect.condition())
     }
 
     // Whether an effect fires and strikes a fact that one of some settings carries.
     fn strikes_carried(&self, settings: &[usize], effect: &Effect) -> bool
-        ensures { result ≡ any (λ f. any (λ g. (depot_of self.now).carries g f) settings.now) (at self.now fires (λ e. e.strikes) (effect_of effect.now)) }
+        ensures { result ≡ at self.now strikes_carried settings.now (effect_of effect.now) }
     {
         self.is_true(effect.condition()) && self.some_carried(settings, effect.strikes())
     }

@@ -1,8 +1,7 @@
 use Rattle.std.proofs.Common.{◌≡◌, Some, None, sym, subst, rules}
-use Rattle.depots.specs.Tables.{effect_of}
 use Rattle.walkthroughs.specs.Moments.{depot_of, state_of}
-use Rattle.walkthroughs.specs.Searching.{Contradicts, LowestBy, row_of_contradiction}
-use Rattle.walkthroughs.proofs.Contradicting.{lowest_pair, no_setting, sets_removed, some_strike, strikes_carried}
+use Rattle.walkthroughs.specs.Searching.{Contradicts, LowestBy, row_of_contradiction, sets_removed, strikes_carried}
+use Rattle.walkthroughs.proofs.Contradicting.{lowest_pair, no_setting, some_strike}
 use Rattle.walkthroughs.proofs.moment.Moment.contradiction.Goals as goal
 
 pub returns-in_err-setting : goal.returns-in_err-setting

@@ -1,7 +1,7 @@
 use Rattle.sheets.specs.Lines.{lines_of}
 use Rattle.sheets.proofs.Single.{one-refusal}
 use Rattle.plans.proofs.Walk.{spelled-one}
-use Rattle.plans.proofs.laws.sheets_fix_the_answer.Goals as goal
+use Rattle.plans.proofs.laws.sheets_fix_the_plan.Goals as goal
 
 pub returns : goal.returns
 returns c names = record {

@@ -1,0 +1,3 @@
+pub mod CallLines
+pub mod Replies
+pub mod Sections

@@ -1,0 +1,5 @@
+//! Running the program and counting what comes out.
+
+pub mod options;
+pub mod program;
+pub mod tally;
