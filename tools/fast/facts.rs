@@ -29,6 +29,7 @@ pub struct Facts<'a> {
     pub zones: Table,
     pub matters: Table,
     listed: Table,
+    by_text: Table,
     codes: Vec<u64>,
     pub texts: Vec<&'a [u8]>,
 }
@@ -38,6 +39,15 @@ fn key(code: u64) -> u64 {
     code + 1
 }
 
+/// A key that few texts share.
+fn text_key(text: &[u8]) -> u64 {
+    let mix = |key: u64, part: u64| (key ^ part).wrapping_mul(0xff51_afd7_ed55_8ccd).rotate_left(29);
+    let (words, rest) = text.as_chunks::<8>();
+    let key = words.iter().fold(text.len() as u64, |key, &word| mix(key, u64::from_le_bytes(word)));
+    let last = rest.iter().fold(0, |last, &byte| last << 8 | u64::from(byte));
+    mix(key, last) | 1
+}
+
 impl<'a> Facts<'a> {
     pub fn new() -> Facts<'a> {
         Facts {
@@ -45,6 +55,7 @@ impl<'a> Facts<'a> {
             zones: Table::new(),
             matters: Table::new(),
             listed: Table::new(),
+            by_text: Table::new(),
             codes: Vec::with_capacity(128),
             texts: Vec::with_capacity(128),
         }
@@ -94,13 +105,17 @@ impl<'a> Facts<'a> {
         self.listed.find(key(fact.code))
     }
 
-    /// The number of a listed fact, from 0.
+    /// The number of a listed fact, from 0. Most texts are those of listed facts, and then need not be read.
     pub fn listed(&self, text: &[u8]) -> Result<usize, Trouble> {
-        self.number(self.read(text)?).ok_or(Trouble::NotListed)
+        match self.by_text.find(text_key(text)) {
+            Some(fact) if self.texts[fact] == text => Ok(fact),
+            _ => self.number(self.read(text)?).ok_or(Trouble::NotListed),
+        }
     }
 
     pub fn add(&mut self, text: &'a [u8], fact: Coded) {
         self.listed.add(key(fact.code));
+        self.by_text.add(text_key(text));
         self.codes.push(fact.code);
         self.texts.push(text);
     }

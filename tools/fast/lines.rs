@@ -1,5 +1,7 @@
 //! The lines of a sheet.
 
+use std::io::BufRead;
+
 #[derive(Clone, Copy)]
 pub struct Line<'a> {
     pub text: &'a [u8],
@@ -21,10 +23,15 @@ impl<'a> Iterator for Lines<'a> {
         if self.rest.is_empty() {
             return None;
         }
-        let end = self.rest.iter().position(|&byte| byte == b'\n');
-        let (text, rest) = self.rest.split_at(end.unwrap_or(self.rest.len()));
-        self.rest = rest.get(1..).unwrap_or_default();
-        Some(Line { text, ended: end.is_some() })
+        // The library skips many bytes at once; on bytes in memory it cannot fail.
+        let mut rest = self.rest;
+        let length = rest.skip_until(b'\n').unwrap_or_default();
+        let line = &self.rest[..length];
+        self.rest = rest;
+        Some(match line.strip_suffix(b"\n") {
+            Some(text) => Line { text, ended: true },
+            None => Line { text: line, ended: false },
+        })
     }
 }
 
@@ -32,7 +39,9 @@ const MOST_BYTES: usize = 240;
 
 impl<'a> Line<'a> {
     pub fn is_legible(self) -> bool {
-        self.ended && self.text.len() <= MOST_BYTES && self.text.iter().all(|&byte| byte == 9 || (33..=126).contains(&byte))
+        let allowed = |&byte: &u8| byte == 9 || byte.wrapping_sub(33) < 94;
+        // All bytes are tested, since many can be at once.
+        self.ended && self.text.len() <= MOST_BYTES && self.text.iter().fold(true, |all, byte| all & allowed(byte))
     }
 
     /// The first fields, so many as there is room for, and how many there are.
