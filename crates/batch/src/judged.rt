@@ -1,12 +1,15 @@
 // The reports on the pairs of an input.
-use crate::pairs::Pairs;
+ghost use Rattle.std.specs.Prelude.{◌≡◌, [], OnOk};
+ghost use Rattle.batch.specs.Judged.{Judged, Reported};
+
+use crate::pairs::first_pair;
 use reports::check::check;
 use sheets::faults::Fault;
 use sheets::faulty_line::Sheets;
 use sheets::refusals::Refusal;
 use std::alloc::Global;
 use std::io;
-use std::io::{ErrorKind, Write};
+use std::io::ErrorKind;
 
 // The bytes of the buffer, which no report is longer than.
 const BUFFER: usize = 8192;
@@ -25,26 +28,26 @@ fn judge_pair(
     pair: &Sheets,
     buffer: &mut [u8],
     printed: &mut Vec<u8>,
-) -> io::Result<()> {
+) -> io::Result<()>
+    ensures { OnOk result (Reported pair.now.depot.now pair.now.plan.now printed.old.items printed.new.items) }
+{
     let length = check(heap, pair, buffer).map_err(unreported)?;
-    let report = buffer.get(..length).unwrap_or(&[]);
-    writeln!(printed, "report {}", report.len())?;
-    printed.extend_from_slice(report)?;
+    let heading = format!(in heap; "report {length}\n")?;
+    printed.extend_from_slice(heading.as_bytes())?;
+    printed.extend_from_slice(&buffer[..length])?;
     Ok(())
 }
 
 // Adds the reports on the pairs of an input to what is printed, up to the first that is not as pairs are written.
-pub fn judge_pairs(heap: Global, input: &[u8], printed: &mut Vec<u8>) -> io::Result<()> {
+pub fn judge_pairs(heap: Global, input: &[u8], printed: &mut Vec<u8>) -> io::Result<()>
+    ensures { OnOk result (Judged input.now printed.old.items [] printed.new.items) }
+{
     let mut buffer = vec![in heap; 0; BUFFER]?;
-    for (index, pair) in Pairs::of(input).enumerate() {
-        let pair = match pair {
-            Ok(pair) => pair,
-            Err(why) => {
-                let message = format!(in heap; "pair {}: {why}", index + 1)?;
-                return Err(io::Error::other(&message));
-            }
-        };
+    let mut rest = input;
+    while !rest.is_empty() {
+        let (pair, below) = first_pair(rest)?;
         judge_pair(heap, &pair, &mut buffer, printed)?;
+        rest = below;
     }
     Ok(())
 }
