@@ -7,11 +7,13 @@ use Rattle.sheets.specs.declared.faults.Sheet.TheVariants.{Depot, Plan}
 use Rattle.sheets.specs.declared.refusals.Refusal.{Refusal}
 use Rattle.sheets.specs.declared.refusals.Refusal.TheVariants.{OverLimit, BadLine, BadLetter, FieldCount, NotItsForm, NotListed, Twice, AlwaysTrue, TableFull, NoGoal, StepSize, UnknownMove, RepeatedMove, NeedFalse, Contradictory, Disturbed, GoalFalse, UnknownNumber, BufferShort, NoMemory}
 use Rattle.sheets.specs.Refusals.{details_of, number_of}
+use Rattle.depots.specs.Kinds.{Meaning, plain_meaning, sight_meaning}
 use Rattle.walkthroughs.specs.Depots.{State}
 use Rattle.reports.specs.Accepted.{acceptance_report, standing_lines}
 use Rattle.reports.specs.Laws.{AcceptancesFit, RefusalsFit}
 use Rattle.reports.specs.Refused.{detailed_as, line_for, placed_as, refusal_line, shown_as, word_of}
 use Rattle.reports.specs.Written.{written}
+use Rattle.reports.proofs.Shortness.{ShortTexts, few-facts, few-steps, plain-short, sight-short}
 
 -- two lengths, one behind the other
 joined : (a b : List ℕ) (k m : ℕ) → length a ≤ k → length b ≤ m → length (a ++ b) ≤ k + m
@@ -34,10 +36,20 @@ counted steps few = length-decimal-le 2 steps (omega arith) (omega arith) (omega
 first-line : (d : List ℕ) → length d ≤ 2 → length (written (codes "OK" ∷ d ∷ [])) ≤ 6
 first-line d short = omega (arith, length-append d (10 ∷ []))
 
-pub acceptances-fit : AcceptancesFit
-acceptances-fit steps texts s few many short =
-    let all : length (acceptance_report steps texts s) ≤ 6 + 56 * length texts = joined (written (codes "OK" ∷ decimal steps ∷ [])) (standing_lines 1 s texts) 6 (56 * length texts) (first-line (decimal steps) (counted steps few)) (lines-fit 1 s texts short) in
-    omega (arith, all)
+accepted-length : (steps : ℕ) (texts : List (List ℕ)) (s : State) → steps ≤ 64 → AllByRecursion (λ text. length text ≤ 53) texts → length (acceptance_report steps texts s) ≤ 6 + 56 * length texts
+accepted-length steps texts s few short = joined (written (codes "OK" ∷ decimal steps ∷ [])) (standing_lines 1 s texts) 6 (56 * length texts) (first-line (decimal steps) (counted steps few)) (lines-fit 1 s texts short)
+
+acceptances-fit : {F : Type 0} (m : Meaning F) → ShortTexts m → AcceptancesFit m
+acceptances-fit m short depot plan t steps s read planned =
+    let few = few-facts m short depot t read in
+    let long = accepted-length (length steps) t.texts s (few-steps t.names plan steps planned) few.2 in
+    omega (arith, long, few.0, few.1)
+
+pub plain-fits : AcceptancesFit plain_meaning
+plain-fits = acceptances-fit plain_meaning plain-short
+
+pub sight-fits : AcceptancesFit sight_meaning
+sight-fits = acceptances-fit sight_meaning sight-short
 
 -- what a machine's number takes
 digits-fit : (n : ℕ) → n < 2 ^ 64 → length (decimal n) ≤ 20

@@ -1,8 +1,11 @@
 // What holds of every report, as a contract that the check asks the proof of.
+ghost use Rattle.depots.specs.Kinds.{plain_meaning, sight_meaning};
 ghost use Rattle.reports.specs.Laws.{AcceptancesFit, RefusalsFit};
 
-// Under the limits of sheets no report is longer than the buffer of 8,192 bytes that the program gives.
+// Reports are shorter than the 8,192 bytes that the program gives: those of acceptances for either kind of fact, and those of
+// refusals.
 pub fn reports_fit()
-    ensures accepted { AcceptancesFit }
+    ensures plain { AcceptancesFit plain_meaning }
+    ensures sight { AcceptancesFit sight_meaning }
     ensures refused { RefusalsFit }
 {}
