@@ -25,7 +25,7 @@ use Rattle.plans.proofs.Passing.{passed, sent-passes, stopped}
 abbrev fault : Option Sheet → ℕ → Refusal → Fault
 fault sheet line w = record { sheet = sheet; line = line; refusal = w }
 
-same_fault : (f g : Fault) → f.sheet ≡ g.sheet → f.line ≡ g.line → f.refusal ≡ g.refusal → f ≡ g
+pub same_fault : (f g : Fault) → f.sheet ≡ g.sheet → f.line ≡ g.line → f.refusal ≡ g.refusal → f ≡ g
 same_fault f g on at for = ap (λ s. fault s f.line f.refusal) on ∙ ap (λ n. fault g.sheet n f.refusal) at ∙ ap (fault g.sheet g.line) for
 
 module _ (d : Depot) where

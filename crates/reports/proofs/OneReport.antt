@@ -1,5 +1,5 @@
 -- Two sheets have one report at the most. Assumes nothing.
-use Rattle.std.proofs.Common.{◌≡◌, ◌≢◌, ℕ, ◌⊎◌, Bool, true, false, List, length, Some, Option, MatchBool, refl, sym, ap, ◌∙◌, subst, inl, inr, rules}
+use Rattle.std.proofs.Common.{◌≡◌, ◌≢◌, ℕ, ◌⊎◌, Bool, true, false, List, length, Some, MatchBool, refl, sym, ap, ◌∙◌, subst, inl, inr, rules}
 use Rattle.sheets.specs.declared.faults.Fault.{Fault}
 use Rattle.sheets.specs.declared.faults.Sheet.{Sheet}
 use Rattle.sheets.specs.declared.faults.Sheet.TheVariants.{Depot, Plan}
@@ -13,20 +13,19 @@ use Rattle.facts.specs.Plain.{plain_same}
 use Rattle.facts.specs.Sight.{sight_carries}
 use Rattle.depots.specs.AnyDepots.{names_sight}
 use Rattle.depots.specs.Kinds.{Meaning, plain_meaning, sight_meaning}
-use Rattle.depots.specs.Spelling.{DepotRead, DepotRefused, DepotTold}
+use Rattle.depots.specs.Spelling.{DepotRead, DepotRefused}
 use Rattle.depots.specs.Tables.{Tables, no_tables}
 use Rattle.depots.proofs.Added.{spelled-one}
-use Rattle.walkthroughs.specs.Depots.{Carrying}
 use Rattle.walkthroughs.specs.Ruled.{ruled}
 use Rattle.walkthroughs.specs.Runs.{Held}
 use Rattle.walkthroughs.proofs.Among.{carrying_among}
 use Rattle.plans.specs.Judging.{PlanAccepted, PlanFault}
 use Rattle.plans.specs.Laws.{OneOutcome}
-use Rattle.plans.specs.Spelling.{PlanRead, PlanRefused, PlanTold}
-use Rattle.plans.proofs.Ends.{one_outcome}
+use Rattle.plans.specs.Spelling.{PlanRead, PlanRefused}
+use Rattle.plans.proofs.Ends.{one_outcome, same_fault}
 use Rattle.plans.proofs.Walk as plans
 use Rattle.reports.specs.Accepted.{acceptance_report}
-use Rattle.reports.specs.Checked.{Report, ReportOf}
+use Rattle.reports.specs.Checked.{ReportOf}
 use Rattle.reports.specs.Checked.ReportOf.{of_acceptance, of_depot, of_plan, of_run}
 use Rattle.reports.specs.Laws.{OneReport}
 use Rattle.reports.specs.Refused.{refusal_report}
@@ -39,12 +38,6 @@ Refused sheet At f = (f.sheet ≡ Some sheet) × At f.line f.refusal
 refused-told : (sheet : Sheet) (At : ℕ → Refusal → Type 0) (f : Fault) (Unread : Type 0) → f.refusal ≢ NoMemory → (Unread → f.refusal ≡ NoMemory) → Unread ⊎ Refused sheet At f → Refused sheet At f
 refused-told sheet At f Unread other wanting (inl none) = absurd (other (wanting none))
 refused-told sheet At f Unread other wanting (inr at) = at
-
-abbrev fault : Option Sheet → ℕ → Refusal → Fault
-fault sheet line w = record { sheet = sheet; line = line; refusal = w }
-
-same_fault : (f g : Fault) → f.sheet ≡ g.sheet → (f.line ≡ g.line) × (f.refusal ≡ g.refusal) → f ≡ g
-same_fault f g on at = ap (λ s. fault s f.line f.refusal) on ∙ ap (λ n. fault g.sheet n f.refusal) at.0 ∙ ap (fault g.sheet g.line) at.1
 
 module _ {F : Type 0} (m : Meaning F) (carries : F → F → Bool) (itself : (f : F) → carries f f ≡ true) (onward : (f g h : F) → carries f g ≡ true → carries g h ≡ true → carries f h ≡ true) (depot plan : List ℕ) where
   -- a report that tells a fault of some sort
@@ -82,14 +75,14 @@ module _ {F : Type 0} (m : Meaning F) (carries : F → F → Bool) (itself : (f 
     one-on_steps t steps one (inr p) (inr q) = p.2 ∙ ap (acceptance_report (length steps) t.texts) (one.one_end p.0 q.0 p.1 q.1) ∙ sym q.2
 
     one-on_plan : (t : Tables F) → OnPlan t a → OnPlan t b → a ≡ b
-    one-on_plan t (inl p) (inl q) = same_told p.fault q.fault p.is q.is (same_fault p.fault q.fault (p.of.0 ∙ sym q.of.0) (one-refusal p.of.1 q.of.1))
+    one-on_plan t (inl p) (inl q) = let at = one-refusal p.of.1 q.of.1 in same_told p.fault q.fault p.is q.is (same_fault p.fault q.fault (p.of.0 ∙ sym q.of.0) at.0 at.1)
     one-on_plan t (inl p) (inr q) = absurd (q.1.faultless p.fault.line p.fault.refusal p.of.1.holds)
     one-on_plan t (inr p) (inl q) = absurd (p.1.faultless q.fault.line q.fault.refusal q.of.1.holds)
     one-on_plan t (inr p) (inr q) =
         one-on_steps t q.0 (one_outcome (ruled carries t) (carrying_among carries t.facts itself onward (ruled carries t) refl refl) q.0) (subst (λ steps. OnSteps t steps a) (plans.spelled-one t.names (lines_of plan) p.0 q.0 p.1.spelled q.1.spelled) p.2) q.2
 
     one-on_depot : OnDepot a → OnDepot b → a ≡ b
-    one-on_depot (inl p) (inl q) = same_told p.fault q.fault p.is q.is (same_fault p.fault q.fault (p.of.0 ∙ sym q.of.0) (one-refusal p.of.1 q.of.1))
+    one-on_depot (inl p) (inl q) = let at = one-refusal p.of.1 q.of.1 in same_told p.fault q.fault p.is q.is (same_fault p.fault q.fault (p.of.0 ∙ sym q.of.0) at.0 at.1)
     one-on_depot (inl p) (inr q) = absurd (q.1.faultless p.fault.line p.fault.refusal p.of.1.holds)
     one-on_depot (inr p) (inl q) = absurd (p.1.faultless q.fault.line q.fault.refusal q.of.1.holds)
     one-on_depot (inr p) (inr q) = one-on_plan q.0 (subst (λ t. OnPlan t a) (spelled-one m no_tables (lines_of depot) p.0 q.0 p.1.spelled q.1.spelled) p.2) q.2
