@@ -5,7 +5,7 @@ use Rattle.std.proofs.lemmas.Bool.{and_cases, and_parts, cases_eq, cases_lt, or_
 use Rattle.walkthroughs.specs.declared.disturbance.Disturbance.{Disturbance}
 use Rattle.walkthroughs.specs.Depots.{Depot, State, move_of, reads}
 use Rattle.walkthroughs.specs.Disturbance.{Otherwise, move_at}
-use Rattle.walkthroughs.specs.DisturbingSets.{disturbs, some_below, some_other}
+use Rattle.walkthroughs.specs.DisturbingSets.{disturbs, some_below, some_part_other}
 use Rattle.walkthroughs.specs.Firing.{after}
 use Rattle.walkthroughs.specs.Searching.{DisturbsBy, LowestBy, row_of}
 use Rattle.walkthroughs.specs.SetRows.{has}
@@ -48,10 +48,10 @@ module _ (d : Depot) (s t : State) (m : ℕ) where
   abbrev count : ℕ
   count = length (move_of d m).effects + 1
 
-  other_found : some_other d s t m count ≡ true → (e : ℕ) × Otherwise d s t m e
+  other_found : some_part_other d s t m ≡ true → (e : ℕ) × Otherwise d s t m e
   other_found h = let found = some_found _ count h in (found.0, differ (reads d s m found.0) (reads d t m found.0) found.2)
 
-  none_other : some_other d s t m count ≡ false → (e : ℕ) → Otherwise d s t m e → ⊥
+  none_other : some_part_other d s t m ≡ false → (e : ℕ) → Otherwise d s t m e → ⊥
   none_other h e other = never_both (reads d t m e) (reads d s m e) (alike (cases_lt e count)) other
     where
       alike : (e < count) ⊎ (count ≤ e) → reads d t m e ≡ reads d s m e

@@ -73,7 +73,7 @@ impl<K: Kind> Moment<'_, K> {
         requires outcomes { at self.now AreOutcomes moves.now outcomes.now }
         ensures { LowestBy row_of (λ x. at self.now SetDisturbs moves.now x.set x.place x.part) result }
     {
-        // One by one the sets would be read anew for each move outside them; only the lowest that disturbs is.
+        // The parts are gone over one by one after the lowest set that disturbs alone.
         let sets = self.disturbing(moves, outcomes);
         let set = (0..1usize << moves.len()).find(|&set| has(&sets, set))?;
         self.disturbed_by(moves, outcomes, set)

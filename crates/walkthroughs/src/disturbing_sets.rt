@@ -1,7 +1,7 @@
 // Which sets of a step's places disturb a move outside them, told of all sets at once.
-ghost use Rattle.std.specs.Prelude.{◌≡◌, ℕ, ◌+◌, ◌<◌, not, ◌&&◌, length};
-ghost use Rattle.walkthroughs.specs.Depots.{move_of, reads, truth_of};
-ghost use Rattle.walkthroughs.specs.DisturbingSets.{disturbs, some_other};
+ghost use Rattle.std.specs.Prelude.{◌≡◌, ℕ, ◌<◌, not, ◌&&◌, length};
+ghost use Rattle.walkthroughs.specs.Depots.{reads, truth_of};
+ghost use Rattle.walkthroughs.specs.DisturbingSets.{disturbs, some_part_other};
 ghost use Rattle.walkthroughs.specs.Moments.{at, depot_of};
 ghost use Rattle.walkthroughs.specs.Outcomes.{AreOutcomes, left_of};
 ghost use Rattle.walkthroughs.specs.SetRows.{has};
@@ -36,7 +36,7 @@ impl<K: Kind> Moment<'_, K> {
 
     // The sets after which some part of a move reads otherwise than at this moment.
     fn other_after(&self, outcomes: &[Outcome], number: usize) -> SetRow
-        ensures { (set : ℕ) → set < 256 → has result set ≡ at self.now some_other (left_of self.now.row.now outcomes.now set) number (length (move_of (depot_of self.now) number).effects + 1) }
+        ensures { (set : ℕ) → set < 256 → has result set ≡ at self.now some_part_other (left_of self.now.row.now outcomes.now set) number }
     {
         let mut sets = no_set();
         let parts = self.depot.effects_of(number).len() + 1;
@@ -49,7 +49,7 @@ impl<K: Kind> Moment<'_, K> {
 
     // The sets that disturb the move at a place outside them, by the move's number.
     fn disturbing_at(&self, outcomes: &[Outcome], place: usize, number: usize) -> SetRow
-        ensures { (set : ℕ) → set < 256 → has result set ≡ (at self.now some_other (left_of self.now.row.now outcomes.now set) number (length (move_of (depot_of self.now) number).effects + 1) && not (in_set set place)) }
+        ensures { (set : ℕ) → set < 256 → has result set ≡ (at self.now some_part_other (left_of self.now.row.now outcomes.now set) number && not (in_set set place)) }
     {
         both(
             &self.other_after(outcomes, number),
@@ -63,6 +63,7 @@ impl<K: Kind> Moment<'_, K> {
         ensures { (set : ℕ) → set < 256 → has result set ≡ at self.now disturbs moves.now set (length moves.now) }
     {
         let mut sets = no_set();
+        // By their places, since a loop over moves with places is refused in a function with a type parameter.
         for i in 0..moves.len() {
             sets = either(&sets, &self.disturbing_at(outcomes, i + 1, moves[i]));
         }

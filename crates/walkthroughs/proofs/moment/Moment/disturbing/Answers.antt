@@ -1,6 +1,5 @@
 use Rattle.std.proofs.Common.{◌≡◌, ◌+◌, not, ◌&&◌, ◌||◌, length, get_or, sym, ap, ◌∙◌, arith}
-use Rattle.walkthroughs.specs.Depots.{move_of}
-use Rattle.walkthroughs.specs.DisturbingSets.{disturbs, some_other}
+use Rattle.walkthroughs.specs.DisturbingSets.{disturbs, some_part_other}
 use Rattle.walkthroughs.specs.Firing.{after}
 use Rattle.walkthroughs.specs.Moments.{depot_of, state_of}
 use Rattle.walkthroughs.specs.SetRows.{has}
@@ -21,8 +20,8 @@ loop-i-preserved g c = λ set below.
     let m = get_or moves i 0 in
     c.either-sets.ensures set below
     ∙ ap (λ b. b || has c.disturbing_at.result set) (c.loop-i.invariant set below)
-    ∙ ap (λ b. disturbs d s moves set i || b) (c.disturbing_at.ensures set below ∙ ap (λ t. some_other d s t m (length (move_of d m).effects + 1) && not (in_set set (i + 1))) (after-left d c.args.self.now.row.now moves c.args.outcomes.now set c.requires))
-    ∙ sym (some_more (λ j. some_other d s (after d s (chosen set moves)) (get_or moves j 0) (length (move_of d (get_or moves j 0)).effects + 1) && not (in_set set (j + 1))) i)
+    ∙ ap (λ b. disturbs d s moves set i || b) (c.disturbing_at.ensures set below ∙ ap (λ t. some_part_other d s t m && not (in_set set (i + 1))) (after-left d c.args.self.now.row.now moves c.args.outcomes.now set c.requires))
+    ∙ sym (some_more (λ j. some_part_other d s (after d s (chosen set moves)) (get_or moves j 0) && not (in_set set (j + 1))) i)
 
 pub returns : goal.returns
 returns g c = λ set below.
