@@ -41,12 +41,7 @@ pub fn plain(longer: usize) -> Outline {
     top.extend(lines("P", &names));
     top.extend(lines("F", &names));
     top.extend(lines("I", &names[32..]));
-    Outline {
-        top,
-        never: name(0),
-        changing: names[1..].to_vec(),
-        halves: [half(&names[1..32]), half(&names[32..])],
-    }
+    Outline { top, never: name(0), changing: names[1..].to_vec(), halves: [half(&names[1..32]), half(&names[32..])] }
 }
 
 /// Eight facts about each of 15 matters, of which some have a longer name; a fact that never stands and seven more.
@@ -79,7 +74,8 @@ fn lines<'t>(letter: &'t str, texts: &'t [String]) -> impl Iterator<Item = Strin
 /// A depot sheet as long as it may be, or nearly: with as many longer names as fit, and then longer names of idle moves.
 pub fn depot(outline: fn(usize) -> Outline, goal_facts: usize) -> Vec<u8> {
     let outlines = (0..=MATTERS).rev().map(outline);
-    let fitting = outlines.map(|outline| (sheet(&outline, 0, goal_facts).len(), outline)).find(|(length, _)| *length <= FULL);
+    let fitting =
+        outlines.map(|outline| (sheet(&outline, 0, goal_facts).len(), outline)).find(|(length, _)| *length <= FULL);
     match fitting {
         Some((length, outline)) => sheet(&outline, FULL - length, goal_facts).into_bytes(),
         None => Vec::new(),
@@ -100,7 +96,8 @@ fn sheet(outline: &Outline, spare: usize, goal_facts: usize) -> String {
 /// A move of the first eight sets the first half, one of the others the second.
 fn add_move(lines: &mut Vec<String>, outline: &Outline, number: usize) {
     let [first, second] = &outline.halves;
-    let (set, struck) = if number < MOVES_OF_A_STEP { (&first.set, &second.struck) } else { (&second.set, &first.struck) };
+    let (set, struck) =
+        if number < MOVES_OF_A_STEP { (&first.set, &second.struck) } else { (&second.set, &first.struck) };
     let first_part = number * (EFFECTS_OF_A_MOVE + 1);
     lines.push(format!("M\tm{number:02}\t!{}", never_true(outline, first_part)));
     for part in first_part + 1..=first_part + EFFECTS_OF_A_MOVE {
@@ -115,7 +112,8 @@ fn never_true(outline: &Outline, part: usize) -> String {
 }
 
 fn some_of(facts: &[String], part: usize) -> String {
-    let some: Vec<&str> = facts.iter().cycle().skip(part * 3 % facts.len()).take(IN_A_LIST).map(String::as_str).collect();
+    let some: Vec<&str> =
+        facts.iter().cycle().skip(part * 3 % facts.len()).take(IN_A_LIST).map(String::as_str).collect();
     some.join(",")
 }
 

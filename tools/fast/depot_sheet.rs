@@ -3,7 +3,7 @@
 use super::depot::{Depot, Effect, Move};
 use super::facts::{Facts, Kind};
 use super::lines::{lines, Line};
-use super::names::name;
+use super::names::{name, Table};
 use super::refusals::{Fault, Reason, Sheet, Trouble};
 
 const MOST_BYTES: usize = 32_768;
@@ -127,7 +127,7 @@ fn kind(word: &[u8]) -> Result<Kind, Reason> {
     }
 }
 
-fn new_name(table: &super::names::Table, text: &[u8]) -> Result<u64, Trouble> {
+fn new_name(table: &Table, text: &[u8]) -> Result<u64, Trouble> {
     let name = name(text).ok_or(Trouble::NotItsForm)?;
     match table.find(name) {
         Some(_) => Err(Trouble::Twice),
@@ -135,7 +135,7 @@ fn new_name(table: &super::names::Table, text: &[u8]) -> Result<u64, Trouble> {
     }
 }
 
-fn add_name(table: &mut super::names::Table, text: &[u8], most: usize) -> Result<(), Reason> {
+fn add_name(table: &mut Table, text: &[u8], most: usize) -> Result<(), Reason> {
     let name = new_name(table, text).map_err(|trouble| trouble.at(2))?;
     room_if(table.len() < most)?;
     table.add(name);

@@ -1,6 +1,6 @@
 //! What a step does, and what is wrong with it.
 
-use super::depot::{Depot, Move};
+use super::depot::{Depot, Effect, Move};
 use super::facts::bits;
 use super::formulas::After;
 use super::plan_sheet::Step;
@@ -71,7 +71,7 @@ fn first_fired(
     depot: &Depot,
     placed: &[Placed],
     of_move: impl Fn(&Placed) -> u128,
-    of_effect: impl Fn(&super::depot::Effect) -> u128,
+    of_effect: impl Fn(&Effect) -> u128,
 ) -> Option<(EffectAt, u128)> {
     let (move_at, place) = placed.iter().zip(1..).find(|(move_at, _)| of_move(move_at) != 0)?;
     let fired = depot.effects_of(move_at.listed).iter().zip(1..).filter(|&(_, effect)| move_at.is_true(effect));
