@@ -88,7 +88,7 @@ fn sheet(outline: &Outline, spare: usize, goal_facts: usize) -> String {
         add_move(&mut lines, outline, number);
     }
     add_idle_moves(&mut lines, spare);
-    let goal = [&outline.changing[..goal_facts - 1], &[outline.never.clone()]].concat();
+    let goal = [&outline.changing[..goal_facts - 1], std::slice::from_ref(&outline.never)].concat();
     lines.push(format!("G\t!({})", goal.join("&")));
     lines.join("\n") + "\n"
 }
