@@ -6,8 +6,8 @@ ghost use Rattle.walkthroughs.specs.Sets.{in_set};
 use crate::sets::in_set;
 use std::array;
 
-// Of which of 256 sets something is so: a digit for each set, in four words of 64. What is so of all sets is told at once, since
-// to go over the sets one by one takes many times as long.
+// Of which of the 256 sets of eight places something is so: a digit for each set, in four words of 64. What is so of all sets
+// is told at once, since to go over the sets one by one takes many times as long.
 pub(crate) type SetRow = [usize; 4];
 
 // No set.
@@ -24,7 +24,7 @@ pub(crate) fn every_set() -> SetRow
     [usize::MAX; 4]
 }
 
-// The sets that have a place.
+// The sets that have a place. The first six places are told within a word, and the other two by the word.
 pub(crate) fn sets_with(place: usize) -> SetRow
     ensures { (set : ℕ) → set < 256 → has result set ≡ in_set set place }
 {
