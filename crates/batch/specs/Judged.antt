@@ -1,5 +1,5 @@
 -- What is printed of an input. Assumes nothing.
-use Rattle.std.specs.Prelude.{◌≡◌, ℕ, List, [], ◌∷◌, ◌++◌, length, codes, decimal}
+use Rattle.std.specs.Prelude.{◌≡◌, ℕ, List, ◌∷◌, ◌++◌, length, codes, decimal}
 use Rattle.reports.specs.Checked.{Report}
 use Rattle.batch.specs.Pairs.{FirstPair}
 

@@ -2,7 +2,7 @@
 use Rattle.std.specs.Prelude.{◌≡◌, ℕ, ◌<◌, true, List, ◌∷◌, ◌++◌, length, codes}
 use Rattle.std.specs.Str.{all_ascii_digits}
 use Rattle.std.specs.Str.Parse.{digits_value}
-use Rattle.sheets.specs.Lines.{Line, lines_of}
+use Rattle.sheets.specs.Lines.{lines_of}
 
 -- A word writes a number in decimal digits.
 abbrev pub WritesNumber : List ℕ → ℕ → Type 0

@@ -1,11 +1,11 @@
 -- A sheet that is read ends with its goal, so its tables have one. Assumes nothing.
-use Rattle.std.proofs.Common.{◌≡◌, ◌≢◌, ℕ, Bool, false, List, [], ◌∷◌, length, Some, None, Option, is_none, sym, refl, ap, ◌∙◌, subst}
+use Rattle.std.proofs.Common.{◌≡◌, ◌≢◌, ℕ, false, List, [], ◌∷◌, length, Some, None, Option, is_none, sym, refl, ap, ◌∙◌, subst}
 use Rattle.std.proofs.lemmas.Option.{none-some, same_Some}
 use Rattle.sheets.specs.declared.letters.Letter.{Letter}
 use Rattle.sheets.specs.declared.letters.Letter.TheVariants as letter
 use Rattle.sheets.specs.declared.refusals.Refusal.TheVariants.{NoGoal}
 use Rattle.sheets.specs.Faults.SheetFault.{end}
-use Rattle.sheets.specs.Layout.{last_letter, letter_on}
+use Rattle.sheets.specs.Layout.{last_letter}
 use Rattle.sheets.specs.Lines.{Line, lines_of}
 use Rattle.depots.specs.Kinds.{Meaning}
 use Rattle.depots.specs.Spelling.{Adds, DepotRead, SpelledFrom, fields_on}

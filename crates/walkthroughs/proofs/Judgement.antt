@@ -7,8 +7,6 @@ use Rattle.sheets.specs.declared.refusals.Refusal.{Refusal}
 use Rattle.sheets.specs.declared.refusals.Refusal.TheVariants.{StepSize, UnknownMove, RepeatedMove, NeedFalse, Contradictory, Disturbed}
 use Rattle.sheets.specs.Faults.{NoLater}
 use Rattle.sheets.specs.Refusals.{number_of, details_of, rank_of}
-use Rattle.walkthroughs.specs.declared.contradiction.Contradiction.{Contradiction}
-use Rattle.walkthroughs.specs.declared.disturbance.Disturbance.{Disturbance}
 use Rattle.walkthroughs.specs.Depots.{Depot, State, Carrying}
 use Rattle.walkthroughs.specs.Ruled.{ruled, with_effects}
 use Rattle.walkthroughs.specs.Searching.{LowestBy, one, row_of, row_of_contradiction}

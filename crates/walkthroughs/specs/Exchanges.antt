@@ -1,5 +1,5 @@
 -- Calls with their answers beside them, as a caller lends them. Assumes nothing.
-use Rattle.std.specs.Prelude.{◌≡◌, ℕ, List, map, Some}
+use Rattle.std.specs.Prelude.{◌≡◌, List, map, Some}
 use Rattle.walkthroughs.specs.declared.exchange.Answer.{Answer as Kept}
 use Rattle.walkthroughs.specs.declared.exchange.Answer.TheVariants.{Changed, Refused, Told}
 use Rattle.walkthroughs.specs.declared.exchange.Call.{Call as Lent}

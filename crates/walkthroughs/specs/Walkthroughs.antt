@@ -1,5 +1,5 @@
 -- A walkthrough that is under way, and how its calls answer. Assumes nothing.
-use Rattle.std.specs.Prelude.{◌≡◌, ℕ, Bool, true, false, None, Ok, Err, Result, MatchResult, is_none}
+use Rattle.std.specs.Prelude.{◌≡◌, Bool, true, false, Ok, Err, Result, MatchResult, is_none}
 use Rattle.sheets.specs.declared.faults.Fault.{Fault}
 use Rattle.sheets.specs.declared.refusals.Refusal.TheVariants.{NoGoal}
 use Rattle.sheets.specs.Refusals.{unplaced}

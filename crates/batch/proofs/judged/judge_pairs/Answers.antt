@@ -1,4 +1,4 @@
-use Rattle.std.proofs.Common.{[], subst}
+use Rattle.std.proofs.Common.{subst}
 use Rattle.batch.specs.Judged.{Judged}
 use Rattle.batch.specs.Judged.Judged.{none, one_more}
 use Rattle.batch.proofs.Fitting.{no_bytes}

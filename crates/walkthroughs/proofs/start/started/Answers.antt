@@ -1,4 +1,4 @@
-use Rattle.std.proofs.Common.{◌≡◌, ℕ, ◌||◌, ◌∙◌, ap, rules, arith}
+use Rattle.std.proofs.Common.{ℕ, ap, rules, arith}
 use mathlib.Core.Path.{fun_ext}
 use Rattle.std.proofs.lemmas.Grind.{common_steps}
 use Rattle.walkthroughs.proofs.start.started.Goals as goal

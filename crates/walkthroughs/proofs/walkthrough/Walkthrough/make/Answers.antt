@@ -1,4 +1,4 @@
-use Rattle.std.proofs.Common.{◌≡◌, length, ◌∙◌, sym, ap}
+use Rattle.std.proofs.Common.{length, ◌∙◌, sym, ap}
 use Rattle.depots.specs.Tables.{tables_of}
 use Rattle.walkthroughs.proofs.Calling.{at_start}
 use Rattle.walkthroughs.proofs.walkthrough.Walkthrough.make.Goals as goal
