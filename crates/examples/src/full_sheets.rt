@@ -1,5 +1,5 @@
 // Depot sheets at their limits: each table, list, line and sheet when it is full, and with one more.
-use crate::sheet_rows::check_rows;
+use crate::sheet_rows::{Row, check_rows};
 use std::alloc::{AllocError, Global};
 use std::test::Fail;
 
@@ -37,65 +37,104 @@ fn numbered(
     Ok(sheet)
 }
 
+const ZONES: &[Row] = &[
+    ("G\t()\n", None),
+    ("Z\tz12\n", Some((14, 9, 0))),
+    ("Z\tz0\n", Some((14, 7, 2))),
+    ("Z\tZ\n", Some((14, 5, 2))),
+];
+
+const MATTERS: &[Row] = &[
+    ("G\t()\n", None),
+    ("P\tp64\n", Some((66, 9, 0))),
+    ("P\tp0\n", Some((66, 7, 2))),
+];
+
+const MOVES: &[Row] = &[
+    ("G\t()\n", None),
+    ("M\tm64\t()\n", Some((66, 9, 0))),
+    ("M\tm0\t()\n", Some((66, 7, 2))),
+    ("M\tm64\tx\n", Some((66, 6, 3))),
+];
+
+const FACTS: &[Row] = &[
+    ("G\t()\n", None),
+    ("F\tall.p0\n", Some((195, 9, 0))),
+    ("F\tz.z.p0\n", Some((195, 8, 2))),
+    ("F\tz.p0\n", Some((195, 7, 2))),
+];
+
 // Each table when it is full: the sheet is read, and one entry more is 9, but every other fault of its line comes first.
 #[test]
 fn full_tables(rt: HostRuntime) -> Result<(), Fail> {
     let heap = rt.alloc();
     let zones = numbered(heap, "K\tsight\n", "Z\tz", 12, "")?;
-    check_rows(
-        &rt,
-        heap,
-        &zones,
-        &[
-            ("G\t()\n", None),
-            ("Z\tz12\n", Some((14, 9, 0))),
-            ("Z\tz0\n", Some((14, 7, 2))),
-            ("Z\tZ\n", Some((14, 5, 2))),
-        ],
-    )?;
+    check_rows(&rt, heap, &zones, ZONES)?;
     let matters = numbered(heap, "K\tplain\n", "P\tp", 64, "")?;
-    check_rows(
-        &rt,
-        heap,
-        &matters,
-        &[
-            ("G\t()\n", None),
-            ("P\tp64\n", Some((66, 9, 0))),
-            ("P\tp0\n", Some((66, 7, 2))),
-        ],
-    )?;
+    check_rows(&rt, heap, &matters, MATTERS)?;
     let moves = numbered(heap, "K\tplain\n", "M\tm", 64, "\t()")?;
-    check_rows(
-        &rt,
-        heap,
-        &moves,
-        &[
-            ("G\t()\n", None),
-            ("M\tm64\t()\n", Some((66, 9, 0))),
-            ("M\tm0\t()\n", Some((66, 7, 2))),
-            ("M\tm64\tx\n", Some((66, 6, 3))),
-        ],
-    )?;
+    check_rows(&rt, heap, &moves, MOVES)?;
     let mut facts = numbered(heap, "K\tsight\nZ\tz\n", "P\tp", 64, "")?;
     push_numbered(&mut facts, "F\tp", 64, "")?;
     push_numbered(&mut facts, "F\tz.p", 64, "")?;
-    check_rows(
-        &rt,
-        heap,
-        &facts,
-        &[
-            ("G\t()\n", None),
-            ("F\tall.p0\n", Some((195, 9, 0))),
-            ("F\tz.z.p0\n", Some((195, 8, 2))),
-            ("F\tz.p0\n", Some((195, 7, 2))),
-        ],
-    )
+    check_rows(&rt, heap, &facts, FACTS)
 }
 
 const NOTHING_DONE: &str = "E\t()\t-\t-\n";
 
 // A formula of size 16.
 const SIXTEEN: &str = "\t(()&()&()&()&()&()&()&()&()&()&()&()&()&()&())";
+
+const OWN_EFFECTS: &[Row] = &[
+    ("G\t()\n", None),
+    ("E\t()\t-\t-\n", Some((19, 9, 0))),
+    ("E\t(\t-\t-\n", Some((19, 5, 2))),
+];
+
+const ALL_EFFECTS: &[Row] = &[
+    ("M\tm16\t()\nG\t()\n", None),
+    ("M\tm16\t()\nE\t()\t-\t-\n", Some((275, 9, 0))),
+];
+
+// 63 needs of size 16 leave room for one more.
+const SIZES: &[Row] = &[
+    ("G\t(()&()&()&()&()&()&()&()&()&()&()&()&()&()&())\n", None),
+    (
+        "G\t!(()&()&()&()&()&()&()&()&()&()&()&()&()&()&())\n",
+        Some((65, 9, 0)),
+    ),
+    (
+        "G\t!(()&()&()&()&()&()&()&()&()&()&()&()&()&()&a)\n",
+        Some((65, 6, 2)),
+    ),
+    (
+        "M\tm\t!(()&()&()&()&()&()&()&()&()&()&()&()&()&()&())\n",
+        Some((65, 9, 0)),
+    ),
+    (
+        "E\t!(()&()&()&()&()&()&()&()&()&()&()&()&()&()&())\t-\t-\n",
+        Some((65, 9, 0)),
+    ),
+    (
+        "M\tm\t(()&()&()&()&()&()&()&()&()&()&()&()&()&()&())\nG\t()\n",
+        Some((66, 9, 0)),
+    ),
+];
+
+const LISTS: &[Row] = &[
+    (
+        "M\tm\t()\nE\t()\tp0,p1,p2,p3,p4,p5,p6,p7\tp8\nG\t()\n",
+        None,
+    ),
+    (
+        "M\tm\t()\nE\t()\tp0,p1,p2,p3,p4,p5,p6,p7,p8\t-\nG\t()\n",
+        Some((21, 5, 3)),
+    ),
+    (
+        "M\tm\t()\nE\t()\t-\tp0,p1,p2,p3,p4,p5,p6,p7,p8\nG\t()\n",
+        Some((21, 5, 4)),
+    ),
+];
 
 // The same of effects, of the sizes of formulas and of a list.
 #[test]
@@ -104,78 +143,15 @@ fn full_moves(rt: HostRuntime) -> Result<(), Fail> {
     let effects = NOTHING_DONE.repeat(heap, 16)?;
     let mut own = String::from_str(heap, "K\tplain\n")?;
     push_moves(&mut own, 1, &effects)?;
-    check_rows(
-        &rt,
-        heap,
-        &own,
-        &[
-            ("G\t()\n", None),
-            ("E\t()\t-\t-\n", Some((19, 9, 0))),
-            ("E\t(\t-\t-\n", Some((19, 5, 2))),
-        ],
-    )?;
+    check_rows(&rt, heap, &own, OWN_EFFECTS)?;
     let mut all = String::from_str(heap, "K\tplain\n")?;
     push_moves(&mut all, 16, &effects)?;
-    check_rows(
-        &rt,
-        heap,
-        &all,
-        &[
-            ("M\tm16\t()\nG\t()\n", None),
-            ("M\tm16\t()\nE\t()\t-\t-\n", Some((275, 9, 0))),
-        ],
-    )?;
-    // 63 needs of size 16 leave room for one more
+    check_rows(&rt, heap, &all, ALL_EFFECTS)?;
     let sizes = numbered(heap, "K\tplain\n", "M\tm", 63, SIXTEEN)?;
-    check_rows(
-        &rt,
-        heap,
-        &sizes,
-        &[
-            ("G\t(()&()&()&()&()&()&()&()&()&()&()&()&()&()&())\n", None),
-            (
-                "G\t!(()&()&()&()&()&()&()&()&()&()&()&()&()&()&())\n",
-                Some((65, 9, 0)),
-            ),
-            (
-                "G\t!(()&()&()&()&()&()&()&()&()&()&()&()&()&()&a)\n",
-                Some((65, 6, 2)),
-            ),
-            (
-                "M\tm\t!(()&()&()&()&()&()&()&()&()&()&()&()&()&()&())\n",
-                Some((65, 9, 0)),
-            ),
-            (
-                "E\t!(()&()&()&()&()&()&()&()&()&()&()&()&()&()&())\t-\t-\n",
-                Some((65, 9, 0)),
-            ),
-            (
-                "M\tm\t(()&()&()&()&()&()&()&()&()&()&()&()&()&()&())\nG\t()\n",
-                Some((66, 9, 0)),
-            ),
-        ],
-    )?;
+    check_rows(&rt, heap, &sizes, SIZES)?;
     let mut list = numbered(heap, "K\tplain\n", "P\tp", 9, "")?;
     push_numbered(&mut list, "F\tp", 9, "")?;
-    check_rows(
-        &rt,
-        heap,
-        &list,
-        &[
-            (
-                "M\tm\t()\nE\t()\tp0,p1,p2,p3,p4,p5,p6,p7\tp8\nG\t()\n",
-                None,
-            ),
-            (
-                "M\tm\t()\nE\t()\tp0,p1,p2,p3,p4,p5,p6,p7,p8\t-\nG\t()\n",
-                Some((21, 5, 3)),
-            ),
-            (
-                "M\tm\t()\nE\t()\t-\tp0,p1,p2,p3,p4,p5,p6,p7,p8\nG\t()\n",
-                Some((21, 5, 4)),
-            ),
-        ],
-    )
+    check_rows(&rt, heap, &list, LISTS)
 }
 
 const EIGHT_EACH: &str =

@@ -191,16 +191,21 @@ fn assert_report(rt: &impl Abort, heap: Global, sheets: &Sheets, report: &str) -
     Ok(())
 }
 
+fn assert_rows(rt: &impl Abort, heap: Global, rows: &[Row]) -> Result<(), Fail> {
+    for (depot, plan, report) in rows {
+        let sheets = Sheets {
+            depot: depot.as_bytes(),
+            plan: plan.as_bytes(),
+        };
+        assert_report(rt, heap, &sheets, report)?;
+    }
+    Ok(())
+}
+
 #[test]
 fn pairs(rt: HostRuntime) -> Result<(), Fail> {
     for rows in [ACCEPTED, RUN, PLANS, DEPOTS] {
-        for (depot, plan, report) in rows {
-            let sheets = Sheets {
-                depot: depot.as_bytes(),
-                plan: plan.as_bytes(),
-            };
-            assert_report(&rt, rt.alloc(), &sheets, report)?;
-        }
+        assert_rows(&rt, rt.alloc(), rows)?;
     }
     Ok(())
 }
@@ -217,10 +222,7 @@ const TURNS: &[(usize, &str)] = &[
 fn long_plans(rt: HostRuntime) -> Result<(), Fail> {
     let heap = rt.alloc();
     for (count, report) in TURNS {
-        let mut plan = String::new(heap);
-        for _ in 0..*count {
-            plan.push_str("t\n")?;
-        }
+        let plan = "t\n".repeat(heap, *count)?;
         let sheets = Sheets {
             depot: PLAIN.as_bytes(),
             plan: plan.as_bytes(),

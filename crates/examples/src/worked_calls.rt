@@ -127,13 +127,8 @@ fn depot_of<K: TextKind>(rt: &impl Abort, heap: Global, sheet: &str) -> Depot<K>
     depot
 }
 
-// Sends the calls of a row, and compares each answer.
-fn check_row<K: TextKind>(
-    rt: &impl Abort,
-    heap: Global,
-    depot: &Depot<K>,
-    row: Row,
-) -> Result<(), Fail> {
+// The calls of a row, with no answers yet.
+fn exchanges_of(heap: Global, row: Row) -> Result<Vec<Exchange<'static>>, AllocError> {
     let mut exchanges = Vec::new(heap);
     for (call, _) in row {
         exchanges.push(Exchange {
@@ -141,9 +136,32 @@ fn check_row<K: TextKind>(
             answer: None,
         })?;
     }
+    Ok(exchanges)
+}
+
+// Sends the calls of a row, and compares each answer.
+fn check_row<K: TextKind>(
+    rt: &impl Abort,
+    heap: Global,
+    depot: &Depot<K>,
+    row: Row,
+) -> Result<(), Fail> {
+    let mut exchanges = exchanges_of(heap, row)?;
     assert!(rt; run(depot, &mut exchanges).is_ok());
     for (exchange, (_, reply)) in exchanges.iter().zip(row) {
         assert_eq!(rt; exchange.answer.map(Reply::from), Some(*reply));
+    }
+    Ok(())
+}
+
+fn check_rows<K: TextKind>(
+    rt: &impl Abort,
+    heap: Global,
+    depot: &Depot<K>,
+    rows: &[Row],
+) -> Result<(), Fail> {
+    for row in rows {
+        check_row(rt, heap, depot, row)?;
     }
     Ok(())
 }
@@ -152,36 +170,29 @@ fn check_row<K: TextKind>(
 fn calls_of_one_walkthrough(rt: HostRuntime) -> Result<(), Fail> {
     let heap = rt.alloc();
     let seen: Depot<Sight> = depot_of(&rt, heap, SEEN);
-    for row in SEEN_ROWS {
-        check_row(&rt, heap, &seen, row)?;
-    }
+    check_rows(&rt, heap, &seen, SEEN_ROWS)?;
     let toggled: Depot<Plain> = depot_of(&rt, heap, TOGGLED);
-    for row in TOGGLED_ROWS {
-        check_row(&rt, heap, &toggled, row)?;
-    }
-    Ok(())
+    check_rows(&rt, heap, &toggled, TOGGLED_ROWS)
 }
 
-// A walkthrough is shown other depots: one with a fact alone, and an empty one.
+// Fact 1 is a. Move 1 sets it and move 2, which needs it, strikes it. Formula 5 is the goal.
+const SMALL: &str =
+    "K\tplain\nP\ta\nF\ta\nM\tset\t()\nE\t()\ta\t-\nM\tstrike\ta\nE\t()\t-\ta\nG\ta\n";
+
+const NOT_LISTED: Reply = Refused(18, [0, 0, 0, 0]);
+
+// A walkthrough is shown a depot that lists fewer facts than the one it was made of.
 #[test]
-fn calls_with_another_depot(rt: HostRuntime) -> Result<(), Fail> {
+fn calls_with_fewer_facts(rt: HostRuntime) -> Result<(), Fail> {
     let heap = rt.alloc();
     let seen: Depot<Sight> = depot_of(&rt, heap, SEEN);
-    let small: Depot<Plain> = depot_of(
-        &rt,
-        heap,
-        "K\tplain\nP\ta\nF\ta\nM\tset\t()\nE\t()\ta\t-\nM\tstrike\ta\nE\t()\t-\ta\nG\ta\n",
-    );
-    let empty: Depot<Plain> = Depot::empty(heap);
+    let small: Depot<Plain> = depot_of(&rt, heap, SMALL);
     let Ok(mut walkthrough) = Walkthrough::make(&seen) else {
         assert!(&rt; false);
         return Ok(());
     };
     assert_eq!(&rt; told(walkthrough.look(&small, 1)), Told(true));
-    assert_eq!(&rt;
-        told(walkthrough.look(&small, 2)),
-        Refused(18, [0, 0, 0, 0])
-    );
+    assert_eq!(&rt; told(walkthrough.look(&small, 2)), NOT_LISTED);
     assert_eq!(&rt; told(walkthrough.truth(&small, 5)), Told(true));
     assert_eq!(&rt; changed(walkthrough.step(&small, &[2])), Changed(1));
     assert_eq!(&rt;
@@ -191,23 +202,15 @@ fn calls_with_another_depot(rt: HostRuntime) -> Result<(), Fail> {
     // fact 2, which the small depot does not list, stands as before
     assert_eq!(&rt; told(walkthrough.look(&seen, 1)), Told(false));
     assert_eq!(&rt; told(walkthrough.look(&seen, 2)), Told(true));
-    assert_eq!(&rt;
-        told(walkthrough.look(&empty, 1)),
-        Refused(18, [0, 0, 0, 0])
-    );
-    assert_eq!(&rt;
-        told(walkthrough.truth(&empty, 1)),
-        Refused(18, [0, 0, 0, 0])
-    );
-    assert_eq!(&rt;
-        changed(walkthrough.step(&empty, &[])),
-        Refused(11, [0, 0, 0, 0])
-    );
-    assert_eq!(&rt;
-        changed(walkthrough.step(&empty, &[1])),
-        Refused(12, [1, 0, 0, 0])
-    );
-    // and the other way: more facts are listed than the walkthrough was made with
+    Ok(())
+}
+
+// It is shown one that lists more.
+#[test]
+fn calls_with_more_facts(rt: HostRuntime) -> Result<(), Fail> {
+    let heap = rt.alloc();
+    let seen: Depot<Sight> = depot_of(&rt, heap, SEEN);
+    let small: Depot<Plain> = depot_of(&rt, heap, SMALL);
     let Ok(mut walkthrough) = Walkthrough::make(&small) else {
         assert!(&rt; false);
         return Ok(());
@@ -219,6 +222,29 @@ fn calls_with_another_depot(rt: HostRuntime) -> Result<(), Fail> {
     assert_eq!(&rt; changed(walkthrough.step(&seen, &[4])), Changed(0));
     assert_eq!(&rt; changed(walkthrough.step(&small, &[1])), Changed(1));
     assert_eq!(&rt; told(walkthrough.look(&seen, 1)), Told(true));
+    Ok(())
+}
+
+// It is shown an empty one.
+#[test]
+fn calls_with_no_facts(rt: HostRuntime) -> Result<(), Fail> {
+    let heap = rt.alloc();
+    let seen: Depot<Sight> = depot_of(&rt, heap, SEEN);
+    let empty: Depot<Plain> = Depot::empty(heap);
+    let Ok(mut walkthrough) = Walkthrough::make(&seen) else {
+        assert!(&rt; false);
+        return Ok(());
+    };
+    assert_eq!(&rt; told(walkthrough.look(&empty, 1)), NOT_LISTED);
+    assert_eq!(&rt; told(walkthrough.truth(&empty, 1)), NOT_LISTED);
+    assert_eq!(&rt;
+        changed(walkthrough.step(&empty, &[])),
+        Refused(11, [0, 0, 0, 0])
+    );
+    assert_eq!(&rt;
+        changed(walkthrough.step(&empty, &[1])),
+        Refused(12, [1, 0, 0, 0])
+    );
     Ok(())
 }
 
