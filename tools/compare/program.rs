@@ -49,10 +49,10 @@ pub fn answers(program: &Path, depot: &[u8], calls: &[Call]) -> Result<Vec<u8>, 
     Ok(printed(child.wait_with_output()?))
 }
 
-/// What `replay` reads: the depot sheet, then the line `calls`, then a line for each call.
+/// What `replay` reads: the depot sheet, an empty line, then a line for each call.
 fn replay_input(depot: &[u8], calls: &[Call]) -> Vec<u8> {
     let lines: String = calls.iter().map(|call| line_of_call(call) + "\n").collect();
-    [depot, b"calls\n", lines.as_bytes()].concat()
+    [depot, b"\n", lines.as_bytes()].concat()
 }
 
 /// `step` and its move numbers, `truth` and a formula number, or `look` and a fact number.

@@ -1,6 +1,7 @@
 pub mod Added
 pub mod Entered
 pub mod Fieldwise
+pub mod Finished
 pub mod Formulaic
 pub mod Gathered
 pub mod Grown

@@ -1,14 +1,13 @@
 -- A depot sheet of either kind. Assumes nothing.
-use Rattle.std.specs.Prelude.{◌≡◌, ℕ, Bool, true, false, List, [], ◌∷◌, length, MatchBool}
+use Rattle.std.specs.Prelude.{◌≡◌, ℕ, Bool, true, false, List, [], ◌∷◌, MatchBool}
 use Rattle.sheets.specs.declared.faults.Fault.{Fault}
 use Rattle.sheets.specs.Layout.{says_sight}
 use Rattle.sheets.specs.Lines.{Line, lines_of}
 use Rattle.depots.specs.declared.any_depot.AnyDepot.{AnyDepot}
 use Rattle.depots.specs.declared.any_depot.AnyDepot.TheVariants.{Plain, Sight}
-use Rattle.depots.specs.declared.any_depot.Inventory.{Inventory}
 use Rattle.depots.specs.Kinds.{plain_meaning, sight_meaning}
 use Rattle.depots.specs.Spelling.{DepotRead, DepotTold}
-use Rattle.depots.specs.Tables.{Tables, tables_of}
+use Rattle.depots.specs.Tables.{tables_of}
 
 -- The first of some lines names the sight kind.
 abbrev pub first_says_sight : List Line → Bool
@@ -28,12 +27,3 @@ AnyRead s (Sight d) = (names_sight s ≡ true) × DepotRead sight_meaning s (tab
 -- What is told of a sheet that is not read.
 abbrev pub AnyTold : List ℕ → Fault → Type 0
 AnyTold s f = MatchBool (names_sight s) (DepotTold sight_meaning s f) (DepotTold plain_meaning s f)
-
--- How many entries the tables have.
-abbrev pub inventory_of : {F : Type 0} → Tables F → Inventory
-inventory_of t = record { zones = length t.zones; facts = length t.facts; moves = length t.moves; effects = length t.effects; formulas = length t.formulas }
-
--- The same of a depot of either kind.
-abbrev pub any_inventory : AnyDepot → Inventory
-any_inventory (Plain d) = inventory_of (tables_of d)
-any_inventory (Sight d) = inventory_of (tables_of d)

@@ -1,12 +1,11 @@
 // A depot of either kind, as its sheet names it.
 ghost use Rattle.std.specs.Prelude.{◌≡◌, MatchResult};
-ghost use Rattle.depots.specs.AnyDepots.{AnyRead, AnyTold, any_inventory, inventory_of, names_sight};
+ghost use Rattle.depots.specs.AnyDepots.{AnyRead, AnyTold, names_sight};
 ghost use Rattle.depots.specs.Kinds.{meaning_of};
 ghost use Rattle.depots.specs.Spelling.{DepotRead, DepotTold};
 ghost use Rattle.depots.specs.Tables.{tables_of};
 
 use crate::depot::Depot;
-use facts::kinds::Kind;
 use facts::plain::Plain;
 use facts::sight::Sight;
 use facts::text_kinds::TextKind;
@@ -20,16 +19,6 @@ use std::alloc::Global;
 pub enum AnyDepot {
     Plain(Depot<Plain>),
     Sight(Depot<Sight>),
-}
-
-// How many entries the tables of a depot have.
-#[derive(Clone, Copy)]
-pub struct Inventory {
-    pub zones: usize,
-    pub facts: usize,
-    pub moves: usize,
-    pub effects: usize,
-    pub formulas: usize,
 }
 
 // Whether line 1 of a sheet names the sight kind.
@@ -58,30 +47,5 @@ pub fn read(heap: Global, sheet: &[u8]) -> Result<AnyDepot, Fault>
         Ok(AnyDepot::Sight(read_of_kind(heap, sheet)?))
     } else {
         Ok(AnyDepot::Plain(read_of_kind(heap, sheet)?))
-    }
-}
-
-impl<K: Kind> Depot<K> {
-    pub fn inventory(&self) -> Inventory
-        ensures { result ≡ inventory_of (tables_of self.now) }
-    {
-        Inventory {
-            zones: self.names.zones.len(),
-            facts: self.facts.len(),
-            moves: self.moves.len(),
-            effects: self.effects().len(),
-            formulas: self.formulas.len(),
-        }
-    }
-}
-
-impl AnyDepot {
-    pub fn inventory(&self) -> Inventory
-        ensures { result ≡ any_inventory self.now }
-    {
-        match self {
-            AnyDepot::Plain(depot) => depot.inventory(),
-            AnyDepot::Sight(depot) => depot.inventory(),
-        }
     }
 }

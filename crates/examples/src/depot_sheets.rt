@@ -194,13 +194,13 @@ fn refused_depots(rt: HostRuntime) {
             .read(heap, b"K\tplain\nP\ta\nF\ta\nM\tm\ta\nG\ta\n")
             .is_ok()
     );
-    assert_eq!(rt; depot.inventory().formulas, 2);
+    assert_eq!(rt; depot.formula_count(), 2);
     assert!(rt;
         depot
             .read(heap, b"K\tplain\nP\ta\nF\ta\nM\tm\ta\nG\tb\n")
             .is_err()
     );
-    assert_eq!(rt; depot.inventory().facts, 0);
-    assert_eq!(rt; depot.inventory().moves, 0);
-    assert_eq!(rt; depot.inventory().formulas, 0);
+    assert_eq!(rt; depot.facts().len(), 0);
+    assert_eq!(rt; depot.move_count(), 0);
+    assert_eq!(rt; depot.formula_count(), 0);
 }

@@ -8,6 +8,8 @@ mod fact_fields;
 #[cfg(test)]
 mod full_sheets;
 #[cfg(test)]
+mod pairs;
+#[cfg(test)]
 mod replies;
 #[cfg(test)]
 mod sheet_rows;

@@ -21,10 +21,11 @@ use Rattle.plans.specs.Judging.{Passed, PlanAccepted, PlanFault, StoppedAt}
 use Rattle.plans.specs.Laws.{AcceptedPlansPass, PlansHaveOneOutcome}
 use Rattle.plans.proofs.Passing.{passed, sent-passes, stopped}
 
+-- a fault by its parts, and two that have the same
 abbrev fault : Option Sheet → ℕ → Refusal → Fault
 fault sheet line w = record { sheet = sheet; line = line; refusal = w }
 
-same_fault : (f g : Fault) → f.sheet ≡ g.sheet → f.line ≡ g.line → f.refusal ≡ g.refusal → f ≡ g
+pub same_fault : (f g : Fault) → f.sheet ≡ g.sheet → f.line ≡ g.line → f.refusal ≡ g.refusal → f ≡ g
 same_fault f g on at for = ap (λ s. fault s f.line f.refusal) on ∙ ap (λ n. fault g.sheet n f.refusal) at ∙ ap (fault g.sheet g.line) for
 
 module _ (d : Depot) where
@@ -61,16 +62,19 @@ module _ (d : Depot) where
   passes_once s t u [] p q = p ∙ sym q
   passes_once s t u (moves ∷ steps) p q = passes_once (after d s moves) t u steps p.1 q.1
 
+  -- what a plan that was stopped at a line comes to, step by step
   stopped-stops : (steps : List (List ℕ)) (line : ℕ) (w : Refusal) → StoppedAt d steps line w → (i : ℕ) × (line ≡ suc i) × Stops (start_of d) steps i w
   stopped-stops steps zero w stop = absurd (none-some stop.moves stop.here)
   stopped-stops steps (suc i) w stop =
       let before : suc i - 1 ≡ i = omega arith in
       (i, refl, stops_at (start_of d) steps i w (record { moves = stop.moves; left = stop.left.stands; here = stop.here; before = subst (λ k. Passes d (start_of d) (take k steps) stop.left.stands) before (sent-passes d (begun d) stop.left (take (suc i - 1) steps) stop.sent); refused_there = stop.refused_there }))
 
+  -- the steps of a plan that were all sent pass
   accepted-passes : (steps : List (List ℕ)) (left : Held) → Passed d steps left → Passes d (start_of d) steps left.stands
   accepted-passes steps left a = sent-passes d (begun d) left steps a.sent
 
   module _ (law : Carrying d) where
+    -- every list of steps ends so
     ends : (s : State) (steps : List (List ℕ)) → Ends s steps
     ends s [] = inl (s, refl)
     ends s (moves ∷ steps) = at (judge d s moves) (judged d law s moves) (ends (after d s moves) steps)
@@ -80,11 +84,13 @@ module _ (d : Depot) where
         at None can (inr (i, w, stops)) = inr (suc i, w, (can, stops))
         at (Some w) stops later = inr (zero, w, stops)
 
+    -- where all pass none is refused
     passes-stop : (s t : State) (steps : List (List ℕ)) (i : ℕ) (w : Refusal) → Passes d s steps t → Stops s steps i w → ⊥
     passes-stop s t [] i w p stops = stops
     passes-stop s t (moves ∷ steps) zero w p stops = no_fault d law s moves p.0 w stops.holds
     passes-stop s t (moves ∷ steps) (suc i) w p stops = passes-stop (after d s moves) t steps i w p.1 stops.1
 
+    -- there is one first step that is refused, and one refusal of it
     stops_once : (s : State) (steps : List (List ℕ)) (i k : ℕ) (w v : Refusal) → Stops s steps i w → Stops s steps k v → (i ≡ k) × (w ≡ v)
     stops_once s [] i k w v a b = absurd a
     stops_once s (moves ∷ steps) zero zero w v a b = (refl, one-refusal d s moves w v a b)

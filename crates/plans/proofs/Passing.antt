@@ -31,6 +31,7 @@ module _ (d : Depot) where
   passes_more s mid left [] moves p can is = (subst (λ t. Accepted d t moves) p can, is ∙ ap (λ t. after d t moves) p)
   passes_more s mid left (first ∷ steps) moves p can is = (p.0, passes_more (after d s first) mid left steps moves p.1 can is)
 
+  -- the steps up to a place pass, and so does that at it
   pub passes_next : (s mid left : State) (steps : List (List ℕ)) (i : ℕ) (moves : List ℕ) → slice_get steps i ≡ Some moves → Passes d s (take i steps) mid → Accepted d mid moves → left ≡ after d mid moves → Passes d s (take (i + 1) steps) left
   passes_next s mid left steps i moves here p can is = rw (take_at steps i moves here) (passes_more s mid left (take i steps) moves p can is)
 
@@ -51,6 +52,7 @@ module _ (d : Depot) where
     pub passed : Passes d (start_of d) steps left.stands → Passed d steps left
     passed p = let sent = passes-sent d (begun d) left steps p in record { sent = sent; law = runs-keep_the_law d law (map step steps) sent.answers left sent.ran }
 
+    -- so do as many as there are
     pub all_passed : (i : ℕ) → length steps ≤ i → Passes d (start_of d) (take i steps) left.stands → Passed d steps left
     all_passed i last p = passed (subst (λ steps. Passes d (start_of d) steps left.stands) (take_all i steps last) p)
 

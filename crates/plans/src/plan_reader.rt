@@ -19,7 +19,7 @@ use sheets::refusals::Refusal;
 use std::alloc::Global;
 
 // The most bytes of a plan sheet.
-const PLAN_LIMIT: usize = 16384;
+pub const PLAN_LIMIT: usize = 16384;
 
 // The size of a plan sheet: within its limit, or refused before any line.
 fn judge_limit(sheet: &[u8]) -> Result<(), Fault>

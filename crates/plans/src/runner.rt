@@ -50,8 +50,8 @@ pub fn run_plan<K: Kind>(depot: &Depot<K>, plan: &Plan) -> Result<Walkthrough, F
     Ok(walkthrough)
 }
 
-// Asks the goal of a walkthrough that stands after the last step of a plan. A false one is told with that step's line, which is how
-// many steps there are.
+// Asks the goal of a walkthrough that stands after the last step of a plan. A false one is told with the line of that step,
+// which is how many steps there are.
 fn judge_goal<K: Kind>(
     walkthrough: &Walkthrough,
     depot: &Depot<K>,

@@ -55,6 +55,6 @@ above_taken s = front_taken s (above_empty s) (from_empty s) (halves_whole s)
 pub below_shorter : (s : List ℕ) → 0 < length s → length (below_empty s) < length s
 below_shorter s some = omega (arith, some, from_within s, length-drop 1 (from_empty s))
 
--- And no more below the first empty line of that.
+-- What stands below the first trial is shorter.
 pub below_twice : (s : List ℕ) → 0 < length s → length (below_empty (below_empty s)) < length s
 below_twice s some = omega (arith, below_shorter s some, from_within (below_empty s), length-drop 1 (from_empty (below_empty s)))

@@ -1,8 +1,9 @@
 -- What a line of a list of calls writes. Assumes nothing.
-use Rattle.std.specs.Prelude.{ℕ, ◌^◌, cond, not, ◌&&◌, ◌==◌, List, [], ◌∷◌, length, Some, None, Option, codes, nat_lt}
+use Rattle.std.specs.Prelude.{ℕ, ◌^◌, cond, not, ◌&&◌, ◌==◌, List, [], ◌∷◌, length, map, Some, None, Option, codes, nat_lt}
 use Rattle.std.specs.Option.{option_map}
 use Rattle.std.specs.Str.{all_ascii_digits, bytes_eq, is_utf8}
 use Rattle.std.specs.Str.Parse.{digits_value}
+use Rattle.sheets.specs.Lines.{lines_of}
 use Rattle.sheets.specs.Pieces.{pieces}
 use Rattle.walkthroughs.specs.Runs.{Call}
 use Rattle.walkthroughs.specs.Runs.Call.{look, step, truth}
@@ -43,3 +44,17 @@ abbrev pub owned_call : OwnCall → Call
 owned_call (Step moves) = step moves.items
 owned_call (Truth n) = truth n
 owned_call (Look f) = look f
+
+-- What the lines of a list write, one after the other: a call or none.
+abbrev pub calls_of_lines : List ℕ → List (Option Call)
+calls_of_lines list = map (λ l. call_of_line l.text) (lines_of list)
+
+-- What was read of some lines, as the rules of runs have it.
+abbrev pub as_calls : List (Option OwnCall) → List (Option Call)
+as_calls = map (option_map owned_call)
+
+-- The calls among what some lines write.
+abbrev pub some_calls : List (Option Call) → List Call
+some_calls [] = []
+some_calls (None ∷ os) = some_calls os
+some_calls (Some c ∷ os) = c ∷ some_calls os

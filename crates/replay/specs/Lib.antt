@@ -1,3 +1,4 @@
 pub mod CallLines
 pub mod Replies
+pub mod Reports
 pub mod Sections

@@ -1,6 +1,7 @@
 -- What is printed for a line of a list of calls. Assumes nothing.
-use Rattle.std.specs.Prelude.{ℕ, true, false, List, [], ◌∷◌, ◌++◌, Some, None, Option, codes, decimal, slice_index}
+use Rattle.std.specs.Prelude.{ℕ, true, false, List, [], ◌∷◌, ◌++◌, Some, None, Option, codes, decimal, drop, slice_index}
 use Rattle.sheets.specs.Refusals.{number_of, details_of}
+use Rattle.walkthroughs.specs.Runs.{Call}
 use Rattle.walkthroughs.specs.declared.exchange.Answer.{Answer}
 use Rattle.walkthroughs.specs.declared.exchange.Answer.TheVariants.{Changed, Refused, Told}
 
@@ -16,3 +17,14 @@ reply_line (Some (Changed count)) = codes "ok " ++ (decimal count ++ (10 ∷ [])
 reply_line (Some (Told true)) = codes "y\n"
 reply_line (Some (Told false)) = codes "n\n"
 reply_line (Some (Refused w)) = codes "NO " ++ (decimal (number_of w) ++ spaced (details_of w))
+
+-- The first of some answers, if there is one.
+abbrev pub first_answer : List (Option Answer) → Option Answer
+first_answer [] = None
+first_answer (a ∷ answers) = a
+
+-- What is printed for what the lines of a list write: the answers stand in the order of the calls.
+abbrev pub replies : List (Option Call) → List (Option Answer) → List ℕ
+replies [] answers = []
+replies (None ∷ lines) answers = reply_line None ++ replies lines answers
+replies (Some c ∷ lines) answers = reply_line (first_answer answers) ++ replies lines (drop 1 answers)

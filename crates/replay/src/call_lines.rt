@@ -2,7 +2,8 @@
 ghost use Rattle.std.specs.Prelude.{◌≡◌, ◌∷◌, IfOk, map};
 ghost use Rattle.std.specs.Option.{option_map};
 ghost use Rattle.sheets.specs.Pieces.{pieces};
-ghost use Rattle.replay.specs.CallLines.{call_of_line, call_of_words, number_of, numbers_of, only_number, owned_call};
+ghost use Rattle.walkthroughs.specs.Exchanges.{call_of};
+ghost use Rattle.replay.specs.CallLines.{as_calls, call_of_line, call_of_words, calls_of_lines, number_of, numbers_of, only_number, owned_call, some_calls};
 
 use sheets::lines::Lines;
 use std::alloc::{AllocError, Global};
@@ -19,7 +20,9 @@ pub enum OwnCall {
 
 impl OwnCall {
     // The call with its numbers lent, and no answer yet.
-    pub fn exchange(&self) -> Exchange<'_> {
+    pub fn exchange(&self) -> Exchange<'_>
+        ensures { call_of result.call ≡ owned_call self.now }
+    {
         let call = match self {
             OwnCall::Step(moves) => Call::Step(moves),
             OwnCall::Truth(number) => Call::Truth(*number),
@@ -96,8 +99,28 @@ fn call_of_line(heap: Global, line: &[u8]) -> Result<Option<OwnCall>, AllocError
 }
 
 // The calls that the lines of a list write, one after the other; none for a line that writes no call.
-pub fn calls_of_lines(heap: Global, list: &[u8]) -> Result<Vec<Option<OwnCall>>, AllocError> {
-    Lines::of(list)
-        .map(|line| -> Result<Option<OwnCall>, AllocError> { call_of_line(heap, line.text) })
-        .try_collect(heap)
+pub fn calls_of_lines(heap: Global, list: &[u8]) -> Result<Vec<Option<OwnCall>>, AllocError>
+    ensures { IfOk result (λ v. as_calls v.items ≡ calls_of_lines list.now) }
+{
+    let mut calls = Vec::new(heap);
+    for line in Lines::of(list) {
+        calls.push(call_of_line(heap, line.text)?)?;
+    }
+    Ok(calls)
+}
+
+// The calls that some lines write, each with an empty slot for its answer.
+pub fn exchanges<'a>(
+    heap: Global,
+    lines: &'a [Option<OwnCall>],
+) -> Result<Vec<Exchange<'a>>, AllocError>
+    ensures { IfOk result (λ v. map (λ x. call_of x.call) v.items ≡ some_calls (as_calls lines.now)) }
+{
+    let mut exchanges = Vec::new(heap);
+    for line in lines {
+        if let Some(call) = line {
+            exchanges.push(call.exchange())?;
+        }
+    }
+    Ok(exchanges)
 }

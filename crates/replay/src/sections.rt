@@ -1,7 +1,6 @@
 // The input cut at its empty lines: depot sheets, each with its list of calls.
-ghost use Rattle.std.specs.Prelude.{◌≡◌, length};
-ghost use Rattle.std.specs.Iterator.{at_most};
-ghost use Rattle.replay.specs.Sections.{above_empty, below_empty, from_empty};
+ghost use Rattle.std.specs.Prelude.{◌≡◌, ◌<◌, [], length, MatchOption};
+ghost use Rattle.replay.specs.Sections.{FirstTrial, above_empty, below_empty, from_empty};
 
 use sheets::lines::first_line;
 
@@ -10,12 +9,6 @@ use sheets::lines::first_line;
 pub struct Trial<'a> {
     pub depot: &'a [u8],
     pub calls: &'a [u8],
-}
-
-// The trials that are left of an input.
-#[derive(Clone, Copy)]
-pub struct Trials<'a> {
-    rest: &'a [u8],
 }
 
 // What stands from the first empty line on; nothing where there is none.
@@ -42,25 +35,14 @@ fn cut(input: &[u8]) -> (&[u8], &[u8])
     (section, closed.get(1..).unwrap_or(&[]))
 }
 
-impl<'a> Trials<'a> {
-    // All trials of an input.
-    pub fn of(input: &'a [u8]) -> Trials<'a> {
-        Trials { rest: input }
+// The first trial of an input and what stands below it, or none where the input has no byte.
+pub fn first_trial<'a>(input: &'a [u8]) -> Option<(Trial<'a>, &'a [u8])>
+    ensures { MatchOption result (input.now ≡ []) (λ x. FirstTrial input.now x.0.depot.now x.0.calls.now x.1.now) }
+{
+    if input.is_empty() {
+        return None;
     }
-}
-
-impl<'a> Iterator for Trials<'a> {
-    type Item = Trial<'a>;
-
-    ghost remaining = { λ s. at_most (length s.rest.now) };
-
-    fn next(&mut self) -> Option<Trial<'a>> {
-        if self.rest.is_empty() {
-            return None;
-        }
-        let (depot, below) = cut(self.rest);
-        let (calls, rest) = cut(below);
-        self.rest = rest;
-        Some(Trial { depot, calls })
-    }
+    let (depot, below) = cut(input);
+    let (calls, rest) = cut(below);
+    Some((Trial { depot, calls }, rest))
 }

@@ -1,9 +1,11 @@
 // The call that judges two sheets and writes the report.
-ghost use Rattle.std.specs.Prelude.{◌≡◌, MatchResult, IfOk};
+ghost use Rattle.std.specs.Prelude.{◌≡◌, IfOk, ◌≢◌};
+ghost use Rattle.sheets.specs.declared.refusals.Refusal.TheVariants.{NoMemory};
 ghost use Rattle.depots.specs.Kinds.{meaning_of};
 ghost use Rattle.depots.specs.Spelling.{DepotRead};
 ghost use Rattle.depots.specs.Tables.{tables_of};
 ghost use Rattle.reports.specs.Checked.{Checked, Report, ReportOf};
+ghost use Rattle.reports.specs.Refused.{refusal_report};
 
 use crate::accepted::acceptance_report;
 use crate::refused::refusal_report;
@@ -19,7 +21,9 @@ use sheets::refusals::Refusal;
 use std::alloc::{AllocError, Global};
 
 // The report of a refusal; that memory was wanting has none, and stays the error that it was.
-fn told(heap: Global, sheets: &Sheets, fault: &Fault) -> Result<Vec<u8>, AllocError> {
+fn told(heap: Global, sheets: &Sheets, fault: &Fault) -> Result<Vec<u8>, AllocError>
+    ensures { IfOk result (λ v. (fault.now.refusal ≢ NoMemory) × (v.items ≡ refusal_report sheets.now.depot.now sheets.now.plan.now fault.now)) }
+{
     match fault.refusal {
         Refusal::NoMemory => Err(AllocError),
         _ => refusal_report(heap, sheets, fault),
@@ -27,7 +31,11 @@ fn told(heap: Global, sheets: &Sheets, fault: &Fault) -> Result<Vec<u8>, AllocEr
 }
 
 // The report on a plan sheet, for a depot that is read.
-fn report_on_plan<K: TextKind>(heap: Global, depot: &Depot<K>, sheets: &Sheets) -> Result<Vec<u8>, AllocError>
+fn report_on_plan<K: TextKind>(
+    heap: Global,
+    depot: &Depot<K>,
+    sheets: &Sheets,
+) -> Result<Vec<u8>, AllocError>
     requires { DepotRead (meaning_of K.Kind K.reading_under) sheets.now.depot.now (tables_of depot.now) }
     ensures { IfOk result (λ v. ReportOf (meaning_of K.Kind K.reading_under) K.carrying sheets.now.depot.now sheets.now.plan.now v.items) }
 {

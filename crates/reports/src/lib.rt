@@ -3,5 +3,6 @@
 
 pub mod accepted;
 pub mod check;
-pub mod depot_report;
+pub mod laws;
 pub mod refused;
+mod shown;

@@ -1,8 +1,9 @@
 // The report of a refusal.
-ghost use Rattle.std.specs.Prelude.{◌≡◌, ◌++◌, IfOk, Some, OnOk};
+ghost use Rattle.std.specs.Prelude.{◌≡◌, IfOk, Some};
 ghost use Rattle.std.specs.Option.{option_map};
-ghost use Rattle.reports.specs.Refused.{word_of, refusal_line, shows_line, line_for, shown_as, refusal_report};
+ghost use Rattle.reports.specs.Refused.{word_of, refusal_line, shows_line, line_for, refusal_report};
 
+use crate::shown::push_shown;
 use sheets::faults::{Fault, Sheet};
 use sheets::faulty_line::Sheets;
 use sheets::refusals::Refusal;
@@ -57,23 +58,13 @@ fn line_for<'a>(sheets: &Sheets<'a>, fault: &Fault) -> Option<&'a [u8]>
     }
 }
 
-// The faulty line as it is shown: its bytes need not be text.
-fn push_line(report: &mut Vec<u8>, text: &[u8]) -> Result<(), AllocError>
-    ensures { OnOk result (report.new.items ≡ report.old.items ++ shown_as (Some text.now)) }
-{
-    report.extend_from_slice(b"L\t")?;
-    report.extend_from_slice(text)?;
-    report.push(b'\n')?;
-    Ok(())
-}
-
 // The report of a refusal: what is told of it and, where one is at fault, the line.
 pub fn refusal_report(heap: Global, sheets: &Sheets, fault: &Fault) -> Result<Vec<u8>, AllocError>
     ensures { IfOk result (λ v. v.items ≡ refusal_report sheets.now.depot.now sheets.now.plan.now fault.now) }
 {
     let mut report = Told(fault).to_string(heap)?.into_bytes();
     if let Some(text) = line_for(sheets, fault) {
-        push_line(&mut report, text)?;
+        push_shown(&mut report, b'L', text)?;
     }
     Ok(report)
 }

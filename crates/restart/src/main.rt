@@ -1,16 +1,19 @@
 // The program: the two sheets of the folder it is run in, and the report on standard output.
 #![tactic(auto)]
 
-use reports::depot_report::depot_report;
+use plans::plan_reader::PLAN_LIMIT;
+use reports::check::check;
+use sheets::faults::Fault;
 use sheets::faulty_line::Sheets;
 use sheets::layout::DEPOT_LIMIT;
+use sheets::refusals::Refusal;
 use std::fs::File;
 use std::io;
 use std::io::{ErrorKind, Read, Write};
 use std::rt::Files;
 
-// The most bytes of a plan.
-const PLAN_LIMIT: usize = 16384;
+// The bytes of the buffer, which no report is longer than.
+const BUFFER: usize = 8192;
 
 // A file's bytes, one past the limit at the most, since that is enough to tell that it is over.
 fn read_up_to(rt: &(impl Files + AllocGlobal), path: &str, limit: usize) -> io::Result<Vec<u8>> {
@@ -29,6 +32,14 @@ fn read_sheet(rt: &(impl Files + AllocGlobal), path: &str, limit: usize) -> io::
     })
 }
 
+// A fault that no report tells: memory was wanting, or the buffer was short.
+fn unreported(fault: Fault) -> io::Error {
+    match fault.refusal {
+        Refusal::BufferShort => io::Error::other("the report is longer than the buffer"),
+        _ => io::Error::from(ErrorKind::OutOfMemory),
+    }
+}
+
 fn main(rt: HostRuntime) -> io::Result<()> {
     let depot = read_sheet(&rt, "depot.tsv", DEPOT_LIMIT)?;
     let plan = read_sheet(&rt, "plan.tsv", PLAN_LIMIT)?;
@@ -36,6 +47,8 @@ fn main(rt: HostRuntime) -> io::Result<()> {
         depot: &depot,
         plan: &plan,
     };
-    let report = depot_report(rt.alloc(), &sheets)?;
-    rt.stdout().write_all(&report)
+    let mut buffer = vec![in rt.alloc(); 0; BUFFER]?;
+    let length = check(rt.alloc(), &sheets, &mut buffer).map_err(unreported)?;
+    buffer.truncate(length);
+    rt.stdout().write_all(&buffer)
 }

@@ -31,6 +31,14 @@ impl Walkthrough {
         Ok(Walkthrough { marks })
     }
 
+    // Whether the fact of a number stands. Beside `look`, which refuses a number that a depot does not list: a caller that walks
+    // a depot's own list counts the numbers itself, and has none to refuse.
+    pub fn stands(&self, number: usize) -> bool
+        ensures { result ≡ (held self.now).stands number }
+    {
+        self.marks.stands(number)
+    }
+
     // Whether the fact with a number stands.
     pub fn look<K: Kind>(&self, depot: &Depot<K>, number: usize) -> Result<bool, Fault>
         ensures { Answers told (λ a. Answered (ruled K.carrying (tables_of depot.now)) (held self.now) (look number) a (held self.now)) result }
@@ -38,7 +46,7 @@ impl Walkthrough {
         if depot.fact_at(number).is_none() {
             return Err(Fault::unplaced(Refusal::UnknownNumber));
         }
-        Ok(self.marks.stands(number))
+        Ok(self.stands(number))
     }
 
     // Whether the formula with a number is true.

@@ -1,0 +1,4 @@
+pub mod Lengths
+pub mod OneReport
+pub mod Reported
+pub mod Shortness
