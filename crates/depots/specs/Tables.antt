@@ -9,7 +9,8 @@ use Rattle.depots.specs.declared.depot.Effect.{Effect as KeptEffect}
 use Rattle.depots.specs.declared.depot.NamedMove.{NamedMove}
 use Rattle.depots.specs.Settings.{numbers_of}
 
--- An effect (a conditional effect): its condition, told by its formula number, and the facts that it sets and strikes.
+-- An effect (a conditional effect): its condition, told by its formula number, and the facts that it sets (added atoms) and
+-- strikes (deleted atoms).
 pub record Effect : Type 0 where
   pub condition : ℕ
   pub settings : List ℕ

@@ -32,11 +32,11 @@ pub struct Effect<C = usize> {
     pub(crate) strikes: FactList,
 }
 
-// The tables of one sheet. The table of effects is lent and filled in place, which the project asks of it: it has room for
-// all that a sheet may have, and places past the count hold nothing of note. The facts' texts stand beside the facts, since
-// these are lent as a slice of their own; the acceptance of a plan prints the texts. The goal is the number of its formula; a
-// depot that is empty has none. Contracts see a depot by `tables_of` and not by a model: a model's value needs a code, and
-// the formulas of the specification have none.
+// The tables of one sheet. The table of effects is lent and filled in place: it has room for all that a sheet may have, and
+// places past the count hold nothing of note. The facts' texts stand beside the facts, since these are lent as a slice of
+// their own; the acceptance of a plan prints the texts. The goal is the number of its formula; a depot that is empty has
+// none. Contracts see a depot by `tables_of` and not by a model: a model's value needs a code, and the formulas of the
+// specification have none.
 #[derive(Drop)]
 pub struct Depot<K: Kind> {
     pub(crate) names: Names,

@@ -10,11 +10,11 @@ mod full_sheets;
 #[cfg(test)]
 mod pairs;
 #[cfg(test)]
+mod plan_sheets;
+#[cfg(test)]
 mod replies;
 #[cfg(test)]
 mod sheet_rows;
-#[cfg(test)]
-mod plan_sheets;
 #[cfg(test)]
 mod shown_lines;
 #[cfg(test)]

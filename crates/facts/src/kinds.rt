@@ -6,7 +6,7 @@ ghost use Rattle.facts.specs.declared.names.NoFact.{NoFact};
 
 use crate::names::{Names, NoFact};
 
-// A kind of fact. One fact carries another if the first cannot stand without the second (atomic consequence).
+// A kind of fact (a language of atoms). One fact carries another if the first cannot stand without the second (atomic consequence).
 pub trait Kind {
     type Fact: Drop;
 

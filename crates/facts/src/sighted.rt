@@ -4,7 +4,7 @@ use crate::short_list::ShortList;
 // The most watchers that stand before a matter.
 pub const MOST_WATCHERS: usize = 5;
 
-// A watcher is who sees: every zone jointly, or the listed zone at an index counted from 0.
+// A watcher (a visibility operator) is who sees: every zone jointly, or the listed zone at an index counted from 0.
 #[derive(Clone, Copy, Debug, PartialEq, Eq)]
 pub enum Watcher {
     All,

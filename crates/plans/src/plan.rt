@@ -14,6 +14,7 @@ pub struct Step {
     pub(crate) moves: ShortList<usize, MOST_MOVES>,
 }
 
+// A plan (a parallel plan): its steps, in their order.
 #[derive(Drop)]
 pub struct Plan {
     pub(crate) steps: Vec<Step>,

@@ -1,7 +1,7 @@
 -- Rows put together mark by mark, and what sets of moves do. Assumes nothing.
 use Rattle.std.proofs.Common.{◌≡◌, ℕ, zero, suc, ◌+◌, ◌/◌, ◌%◌, ◌^◌, ◌<◌, ◌≤◌, Bool, true, false, cond, not, ◌&&◌, ◌||◌, eqb, List, [], ◌∷◌, length, get_or, drop, sym, refl, ap, ◌∙◌, inl, inr, add-one, arith}
 use mathlib.Core.Path.{fun_ext}
-use Rattle.std.proofs.Math.Bool.{or-false, or_assoc}
+use Rattle.std.proofs.Math.Bool.{and-false, and-true, or-false, or_assoc}
 use Rattle.std.proofs.Math.Nat.{div-one}
 use Rattle.std.proofs.lemmas.List.{drop_all, drop_more, get_or_past}
 use Rattle.std.proofs.lemmas.Bool.Decides.{nat_tests}
@@ -11,7 +11,7 @@ use Rattle.walkthroughs.specs.declared.firing.Outcome.{Outcome}
 use Rattle.walkthroughs.specs.Depots.{Depot}
 use Rattle.std.specs.List.{list_any}
 use Rattle.walkthroughs.specs.Firing.{after, fired, fired_by}
-use Rattle.walkthroughs.specs.Outcomes.{AreOutcomes, Together, left_by, picked}
+use Rattle.walkthroughs.specs.Outcomes.{AreOutcomes, Together, left_by, left_of, picked}
 use Rattle.walkthroughs.specs.Sets.{chosen, in_set}
 use Rattle.walkthroughs.proofs.Counts.{any-joined}
 use Rattle.walkthroughs.proofs.Subsets.{digit-shifted, halved}
@@ -27,6 +27,10 @@ left-row start after o long adds-long longer filled = fun_ext by_number
     by_number : (f : ℕ) → stands_in after f ≡ left_by start o f
     by_number zero = refl
     by_number (suc k) = elim (cases_lt k 128) [ inl below ↦ let mark = filled k below in grind (arith, nat_tests) | inr over ↦ grind (arith, nat_tests, get_or_past) ]
+
+-- what is left of a fact, by answers that are the same
+pub left-told : (t a p o r A S R : Bool) → t ≡ (a || (p && o)) → a ≡ A → p ≡ S → o ≡ not r → r ≡ R → t ≡ (A || (S && not R))
+left-told t a p o r A S R is adds stood kept removed = is ∙ ap (λ x. x || (p && o)) adds ∙ ap (λ x. A || (x && o)) stood ∙ ap (λ x. A || (S && x)) (kept ∙ ap not removed)
 
 -- what is left of a set gives the whole
 module _ (P : Outcome → Bool) (outcomes : List Outcome) (number : ℕ) where
@@ -57,6 +61,11 @@ module _ (P : Outcome → Bool) (outcomes : List Outcome) (number : ℕ) where
     pub unite_on : (b : Bool) → b ≡ in_set number (i + 1) → b ≡ false → next ≡ sofar → Uniting next (i + 1)
     unite_on b told outside same = ap (λ n. n || list_any P rest) same ∙ here false (sym outside ∙ told)
 
+    -- one more, if it is of the set
+    pub unite_turn : (b : Bool) → b ≡ in_set number (i + 1) → next ≡ (sofar || (P o && b)) → Uniting next (i + 1)
+    unite_turn true told is = unite_more true told refl (is ∙ ap (λ x. sofar || x) (and-true (P o)))
+    unite_turn false told is = unite_on false told refl (is ∙ ap (λ x. sofar || x) (and-false (P o)) ∙ or-false sofar)
+
 -- what the outcomes of a set do is what its moves do
 module _ (P : Outcome → Bool) (Q : ℕ → Bool) where
   abbrev Agree : List ℕ → List Outcome → Type 0
@@ -85,8 +94,14 @@ module _ (d : Depot) (start : List Bool) where
   removing-agrees f (m ∷ moves) (o ∷ outcomes) are = (are.0.removes f, removing-agrees f moves outcomes are.1)
 
   -- the facts after a set of the moves
-  pub after-chosen : (moves : List ℕ) (outcomes : List Outcome) (number : ℕ) (o : Outcome) → AreOutcomes d (stands_in start) moves outcomes → Together (picked number outcomes) o → left_by start o ≡ after d (stands_in start) (chosen number moves)
+  pub after-left : (moves : List ℕ) (outcomes : List Outcome) (number : ℕ) → AreOutcomes d (stands_in start) moves outcomes → left_of start outcomes number ≡ after d (stands_in start) (chosen number moves)
   unfolding after
-  after-chosen moves outcomes number o are all = fun_ext (λ f.
-      ap (λ b. b || (stands_in start f && not (stands_in o.removes f))) (all.adds f ∙ picked-chosen _ _ number moves outcomes (adding-agrees f moves outcomes are) ∙ sym (any-joined (λ g. d.carries g f) (fired_by d (stands_in start) (λ e. e.settings)) (chosen number moves)))
-      ∙ ap (λ b. list_any (λ g. d.carries g f) (fired d (stands_in start) (λ e. e.settings) (chosen number moves)) || (stands_in start f && not b)) (all.removes f ∙ picked-chosen _ _ number moves outcomes (removing-agrees f moves outcomes are) ∙ sym (any-joined (λ g. d.carries f g) (fired_by d (stands_in start) (λ e. e.strikes)) (chosen number moves))))
+  after-left moves outcomes number are = fun_ext (λ f.
+      ap (λ b. b || (stands_in start f && not (list_any (λ o. stands_in o.removes f) (picked number outcomes)))) (picked-chosen _ _ number moves outcomes (adding-agrees f moves outcomes are) ∙ sym (any-joined (λ g. d.carries g f) (fired_by d (stands_in start) (λ e. e.settings)) (chosen number moves)))
+      ∙ ap (λ b. list_any (λ g. d.carries g f) (fired d (stands_in start) (λ e. e.settings) (chosen number moves)) || (stands_in start f && not b)) (picked-chosen _ _ number moves outcomes (removing-agrees f moves outcomes are) ∙ sym (any-joined (λ g. d.carries f g) (fired_by d (stands_in start) (λ e. e.strikes)) (chosen number moves))))
+
+  together-left : (outcomes : List Outcome) (number : ℕ) (o : Outcome) → Together (picked number outcomes) o → left_by start o ≡ left_of start outcomes number
+  together-left outcomes number o all = fun_ext (λ f. ap (λ b. b || (stands_in start f && not (stands_in o.removes f))) (all.adds f) ∙ ap (λ b. list_any (λ x. stands_in x.adds f) (picked number outcomes) || (stands_in start f && not b)) (all.removes f))
+
+  pub after-chosen : (moves : List ℕ) (outcomes : List Outcome) (number : ℕ) (o : Outcome) → AreOutcomes d (stands_in start) moves outcomes → Together (picked number outcomes) o → left_by start o ≡ after d (stands_in start) (chosen number moves)
+  after-chosen moves outcomes number o are all = together-left outcomes number o all ∙ after-left moves outcomes number are

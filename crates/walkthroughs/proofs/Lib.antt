@@ -4,6 +4,7 @@ pub mod Calling
 pub mod Contradicting
 pub mod Counts
 pub mod Disturbing
+pub mod DisturbingSets
 pub mod Exchanging
 pub mod Faulty
 pub mod Fires
@@ -21,6 +22,7 @@ pub mod Replies
 pub mod Ruling
 pub mod Running
 pub mod Searched
+pub mod SetRows
 pub mod SetSearch
 pub mod Spread
 pub mod Subsets

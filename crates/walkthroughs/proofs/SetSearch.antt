@@ -60,6 +60,11 @@ sets_fit n few =
     let most : 2 ^ n ≤ 2 ^ 8 = pow_mono few in
     ap (λ k. k % 2 ^ 64) (omega arith) ∙ mod-eq_of_lt (omega (arith, most))
 
+pub most_sets : (n : ℕ) → n ≤ 8 → 1 * 2 ^ n % 2 ^ 64 ≤ 256
+most_sets n few =
+    let most : 2 ^ n ≤ 2 ^ 8 = pow_mono few in
+    omega (arith, sets_fit n few, most)
+
 -- the sets of places
 module _ (d : Depot) (s : State) (moves : List ℕ) (k : ℕ) (count : k ≡ 2 ^ length moves) where
   by_its_set : (x : Disturbance) → SetDisturbs d s moves x.set x.place x.part → DisturbsBy d s moves x.set x

@@ -17,9 +17,9 @@ digit-shifted n zero = ap (λ m. eqb (m % 2) 1) (sym (div-one n))
 digit-shifted n (suc k) = digit-shifted (n / 2) k ∙ ap (λ m. eqb (m % 2) 1) (div-div-eq-div-mul n 2 (2 ^ k) ∙ ap (λ m. n / m) (omega arith))
 
 -- a number has no digit past those that it is written with
-digit-past : (n k : ℕ) → n < 2 ^ 64 → 64 ≤ k → digit n k ≡ false
-digit-past n k small past =
-    let powers : 2 ^ 64 ≤ 2 ^ k = pow-le-pow_right (omega arith) past in
+pub digit-past : (n k j : ℕ) → n < 2 ^ j → j ≤ k → digit n k ≡ false
+digit-past n k j small past =
+    let powers : 2 ^ j ≤ 2 ^ k = pow-le-pow_right (omega arith) past in
     digit-shifted n k ∙ ap (λ m. eqb (m % 2) 1) (div-eq_of_lt (omega (arith, small, powers)))
 
 -- a digit by a shift, and none where the shift is too long to be told
@@ -28,8 +28,8 @@ digit-read n k (Ok b) told small is given shifts = shifts b given ∙ by_test (l
   where
     by_test : (t : Bool) → ltb b 64 ≡ t → eqb (cond t (n / 2 ^ b) 0 % 2) 1 ≡ digit n b
     by_test true within = sym (digit-shifted n b)
-    by_test false past = sym (digit-past n b small (ltb-false b 64 past))
-digit-read n k (Err e) told small past none shifts = none ∙ sym (digit-past n k small (elim (cases_lt k 64) [ inl l ↦ absurd (past (omega arith)) | inr l ↦ l ]))
+    by_test false past = sym (digit-past n b 64 small (ltb-false b 64 past))
+digit-read n k (Err e) told small past none shifts = none ∙ sym (digit-past n k 64 small (elim (cases_lt k 64) [ inl l ↦ absurd (past (omega arith)) | inr l ↦ l ]))
 
 -- a set with its first place, and one without it
 chosen-with : (n m : ℕ) (ms : List ℕ) → n % 2 ≡ 1 → chosen n (m ∷ ms) ≡ m ∷ chosen (n / 2) ms

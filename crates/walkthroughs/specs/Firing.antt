@@ -44,8 +44,8 @@ after d s moves f = adds d s moves f || (s f && not (removes d s moves f))
 abbrev pub clash : Depot → List ℕ → List ℕ → Bool
 clash d settings strikes = any (λ g. any (λ f. d.carries g f) strikes) settings
 
--- Moves are contradictory: a fired effect sets a fact that carries a fact struck by a fired effect, be it of another
--- move, of the same one, or the same effect.
+-- Moves are contradictory (their effects are): a fired effect sets a fact that carries a fact struck by a fired effect, be
+-- it of another move, of the same one, or the same effect.
 abbrev pub contradictory : Depot → State → List ℕ → Bool
 contradictory d s moves = clash d (fired d s (λ e. e.settings) moves) (fired d s (λ e. e.strikes) moves)
 

@@ -1,5 +1,6 @@
 pub mod Depots
 pub mod Disturbance
+pub mod DisturbingSets
 pub mod Examples
 pub mod Exchanges
 pub mod Firing
@@ -14,6 +15,7 @@ pub mod Outcomes
 pub mod Ruled
 pub mod Runs
 pub mod Searching
+pub mod SetRows
 pub mod Sets
 pub mod Steps
 pub mod Unpickings

@@ -35,3 +35,7 @@ pub record Together (others : List Outcome) (o : Outcome) : Type 0 where
 -- The facts that an outcome leaves: it removes, then it adds.
 abbrev pub left_by : List Bool → Outcome → State
 left_by start o f = stands_in o.adds f || (stands_in start f && not (stands_in o.removes f))
+
+-- The facts that the outcomes at the places of a set leave of those at the start.
+abbrev pub left_of : List Bool → List Outcome → ℕ → State
+left_of start outcomes set f = any (λ o. stands_in o.adds f) (picked set outcomes) || (stands_in start f && not (any (λ o. stands_in o.removes f) (picked set outcomes)))

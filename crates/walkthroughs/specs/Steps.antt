@@ -9,8 +9,8 @@ use Rattle.walkthroughs.specs.Disturbance.{AlikeInEveryOrder, SetDisturbs, move_
 use Rattle.walkthroughs.specs.Firing.{clash, contradictory, settings_at, strikes_at}
 use Rattle.walkthroughs.specs.Lists.{times}
 
--- A step is accepted where it can be done: it has 1 to 8 moves, all listed and none twice, their needs are true, and
--- they can be done without contradiction and in every order alike.
+-- A step, moves that are done together (parallel actions), is accepted where it can be done: it has 1 to 8 moves, all listed
+-- and none twice, their needs are true, and they can be done without contradiction and in every order alike.
 pub record Accepted (d : Depot) (s : State) (moves : List ℕ) : Type 0 where
   pub some : 0 < length moves
   pub few : length moves ≤ 8

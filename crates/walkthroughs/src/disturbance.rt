@@ -10,6 +10,7 @@ use crate::after::after_set;
 use crate::firing::Outcome;
 use crate::marks::Row;
 use crate::moment::Moment;
+use crate::set_rows::has;
 use crate::sets::in_set;
 use facts::kinds::Kind;
 
@@ -72,6 +73,9 @@ impl<K: Kind> Moment<'_, K> {
         requires outcomes { at self.now AreOutcomes moves.now outcomes.now }
         ensures { LowestBy row_of (λ x. at self.now SetDisturbs moves.now x.set x.place x.part) result }
     {
-        (0..1usize << moves.len()).find_map(|set| self.disturbed_by(moves, outcomes, set))
+        // The parts are gone over one by one after the lowest set that disturbs alone.
+        let sets = self.disturbing(moves, outcomes);
+        let set = (0..1usize << moves.len()).find(|&set| has(&sets, set))?;
+        self.disturbed_by(moves, outcomes, set)
     }
 }

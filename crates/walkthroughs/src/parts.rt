@@ -21,7 +21,7 @@ impl<K: Kind> Moment<'_, K> {
 
     // The formula number of a part of a move, if there is the part: part 0 is its need, and part e the condition of its
     // effect e. A part is a number, as a refusal tells it.
-    fn part_of(&self, number: usize, part: usize) -> Option<usize>
+    pub(crate) fn part_of(&self, number: usize, part: usize) -> Option<usize>
         ensures { unwrap_or result 0 ≡ part_of (depot_of self.now) number part }
     {
         match part.checked_sub(1) {
