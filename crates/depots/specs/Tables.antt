@@ -1,5 +1,5 @@
 -- The tables that the lines of a depot sheet fill. Assumes nothing.
-use Rattle.std.specs.Prelude.{ℕ, List, [], map, take, Some, None, vec_items, Option}
+use Rattle.std.specs.Prelude.{ℕ, List, [], map, take, Some, None, vec_items, vec_len, Option}
 use Rattle.facts.specs.declared.kinds.Kind.{Ghosts}
 use Rattle.facts.specs.Texts.{Listing, listing_of}
 use Rattle.formulas.specs.Formulas.{Formula}
@@ -83,6 +83,10 @@ move_of m = record { need = m.numbers.need; effects_before = m.numbers.effects_b
 -- How many places of its table of effects a depot has filled.
 abbrev pub kept_effects : {K F : Type 0} {kind : Ghosts K F} → Depot K F kind → ℕ
 kept_effects d = d.effect_count
+
+-- How many effects the table of a depot has places for.
+abbrev pub room_of : {K F : Type 0} {kind : Ghosts K F} → Depot K F kind → ℕ
+room_of d = vec_len d.effects
 
 -- The tables of a depot.
 abbrev pub tables_of : {K F : Type 0} {kind : Ghosts K F} → Depot K F kind → Tables F

@@ -29,7 +29,7 @@ pub(crate) fn fill(
     count: usize,
     effect: Effect,
 ) -> Result<usize, AllocError>
-    ensures { MatchResult result (λ n. (n ≡ count + 1) × (take n effects.new ≡ take count effects.old ++ effect ∷ [])) (λ _. (length effects.old ≤ count) × (effects.new ≡ effects.old)) }
+    ensures { MatchResult result (λ n. (n ≡ count + 1) × (take n effects.new ≡ take count effects.old ++ effect ∷ []) × (length effects.new ≡ length effects.old)) (λ _. (length effects.old ≤ count) × (effects.new ≡ effects.old)) }
 {
     // No `get_mut`, since of a slice that was written through it a proof knows no element.
     if count >= effects.len() {

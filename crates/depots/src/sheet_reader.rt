@@ -1,8 +1,9 @@
 // A depot sheet, read line by line.
-ghost use Rattle.std.specs.Prelude.{◌≡◌, MatchResult};
+ghost use Rattle.std.specs.Prelude.{◌≡◌, IfOk, MatchResult};
 ghost use Rattle.depots.specs.Kinds.{meaning_of};
 ghost use Rattle.depots.specs.Spelling.{DepotRead, DepotTold};
-ghost use Rattle.depots.specs.Tables.{no_tables, tables_of};
+ghost use Rattle.depots.specs.Tables.{no_tables, room_of, tables_of};
+ghost use Rattle.depots.specs.Wrong.{most_effects};
 
 use crate::depot::{Depot, Effect};
 use crate::effect_table::MOST_EFFECTS;
@@ -16,7 +17,8 @@ use std::alloc::{AllocError, Global};
 impl<K: TextKind> Depot<K> {
     // Empties the depot and makes room for as many effects as a sheet may have, unless memory is wanting.
     fn begin(&mut self, heap: Global) -> Result<(), AllocError>
-        ensures { tables_of self.new ≡ no_tables }
+        ensures tables { tables_of self.new ≡ no_tables }
+        ensures room { IfOk result (λ _. room_of self.new ≡ most_effects) }
     {
         *self = Depot::empty(heap);
         self.effects = vec![in heap; Effect::none(); MOST_EFFECTS]?;

@@ -1,4 +1,5 @@
 pub mod Carrying
+pub mod Limits
 pub mod Listed
 pub mod Meaning
 pub mod Numbering

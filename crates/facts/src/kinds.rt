@@ -10,8 +10,10 @@ use crate::names::{Names, NoFact};
 pub trait Kind {
     type Fact: Drop;
 
-    // The most watchers that a fact of the kind can have.
+    // The most watchers that a fact of the kind can have, for code and for clauses.
     const MOST_WATCHERS: usize;
+
+    ghost MOST_WATCHERS: { ℕ };
 
     // The word that names the kind in a sheet.
     ghost wording: { List ℕ };

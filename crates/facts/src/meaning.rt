@@ -1,5 +1,5 @@
 // What the answers of the kinds mean in words, each as the contract of a function.
-ghost use Rattle.std.specs.Prelude.{Decides};
+ghost use Rattle.std.specs.Prelude.{◌≡◌, false, Decides};
 ghost use Rattle.facts.specs.Meaning.{ReadsBack, SameByText};
 ghost use Rattle.facts.specs.Sight.{watchers_of, Carries};
 ghost use Rattle.facts.specs.Texts.{Listing};
@@ -7,9 +7,24 @@ ghost use Rattle.facts.specs.Watchers.{Idle};
 ghost use Rattle.facts.specs.Worked.{Worked};
 
 use crate::kinds::Kind;
+use crate::plain::{Plain, PlainFact};
 use crate::sight::Sight;
 use crate::sighted::SightFact;
 use crate::spelled_kinds::SpelledKind;
+
+// A plain fact carries only itself.
+pub fn plain_carries(a: &PlainFact, b: &PlainFact) -> bool
+    ensures { Decides result (a.now ≡ b.now) }
+{
+    Plain::carries(a, b)
+}
+
+// No plain fact is always true.
+pub fn plain_is_always_true(fact: &PlainFact) -> bool
+    ensures { result ≡ false }
+{
+    Plain::always_true(fact)
+}
 
 // A sight fact carries another if they are the same, or if it is `all` before what the other has one or more watchers before.
 pub fn sight_carries(a: &SightFact, b: &SightFact) -> bool

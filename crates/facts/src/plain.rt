@@ -1,6 +1,7 @@
 // The plain kind: a fact is a listed matter and carries only itself.
 ghost use Rattle.std.specs.Prelude.{codes, refl};
 ghost use Rattle.facts.specs.Plain.{plain_reading, plain_same, plain_certain, plain_spelled};
+ghost use Rattle.facts.specs.Limits.{plain_at_most, plain_reached};
 ghost use Rattle.facts.specs.Spelling.{plain_back, plain_same-by_text};
 ghost use Rattle.facts.specs.Texts.{matters_of};
 ghost use Rattle.std.proofs.Common.{rules};
@@ -24,6 +25,8 @@ impl Kind for Plain {
     type Fact = PlainFact;
 
     const MOST_WATCHERS: usize = 0;
+
+    ghost MOST_WATCHERS = { 0 };
 
     ghost wording = { codes "plain" };
 
@@ -77,4 +80,8 @@ impl SpelledKind for Plain {
     ghost reads_back = { λ listing. plain_back listing.matters };
 
     ghost same_by_text = { λ listing. plain_same-by_text listing.matters };
+
+    ghost at_most = { λ listing. plain_at_most listing.matters };
+
+    ghost reached = { plain_reached };
 }

@@ -1,6 +1,7 @@
 // The sight kind: a fact is up to five watchers and then a matter.
 ghost use Rattle.std.specs.Prelude.{◌≡◌, codes, refl};
 ghost use Rattle.facts.specs.Sight.{watchers_of, sight_reading, sight_same, sight_carries, sight_certain, sight_spelled};
+ghost use Rattle.facts.specs.Limits.{sight_at_most, sight_reached};
 ghost use Rattle.facts.specs.Spelling.{sight_back, sight_same-by_text};
 ghost use Rattle.facts.specs.Texts.{zones_of, matters_of};
 ghost use Rattle.facts.specs.Carrying.{sight_carries-refl, sight_carries-trans};
@@ -28,6 +29,8 @@ impl Kind for Sight {
     type Fact = SightFact;
 
     const MOST_WATCHERS: usize = MOST_WATCHERS;
+
+    ghost MOST_WATCHERS = { 5 };
 
     ghost wording = { codes "sight" };
 
@@ -78,4 +81,8 @@ impl SpelledKind for Sight {
     ghost reads_back = { λ listing. sight_back listing.zones listing.matters };
 
     ghost same_by_text = { λ listing. sight_same-by_text listing.zones listing.matters };
+
+    ghost at_most = { λ listing. sight_at_most listing.zones listing.matters };
+
+    ghost reached = { sight_reached };
 }

@@ -1,6 +1,6 @@
 // What a text tells of its fact, where every fact of a kind is spelled by a text of its own.
 ghost use Rattle.std.specs.Prelude.{ℕ, List};
-ghost use Rattle.facts.specs.Meaning.{ReadsBack, SameByText};
+ghost use Rattle.facts.specs.Meaning.{AtMost, ReadsBack, Reached, SameByText};
 ghost use Rattle.facts.specs.Texts.{Listing};
 
 use crate::text_kinds::TextKind;
@@ -15,4 +15,9 @@ pub trait SpelledKind: TextKind {
 
     // Two texts are the same fact exactly if they are equal.
     ghost same_by_text: { (listing : Listing) → SameByText (Self.reading_under listing) Self.alike };
+
+    // No fact has more watchers than the kind says, and some fact has as many.
+    ghost at_most: { (listing : Listing) → AtMost (Self.reading_under listing) Self.MOST_WATCHERS };
+
+    ghost reached: { Reached Self.reading_under Self.MOST_WATCHERS };
 }
