@@ -1,6 +1,6 @@
 -- The parts of a list of facts, gathered one after the other. Assumes nothing.
 use Rattle.std.proofs.Common.{◌≡◌, ℕ, suc, ◌+◌, ◌≤◌, true, false, List, [], ◌∷◌, ◌++◌, map, length, Some, None, Option, Ok, Err, Result, sym, refl, ap, ◌∙◌}
-use Rattle.std.proofs.lemmas.Bool.{and_parts, both_ways}
+use Rattle.std.proofs.lemmas.Bool.{both_ways}
 use Rattle.std.proofs.lemmas.List.Folds.{list_all-map}
 use Rattle.std.specs.List.{list_all}
 use Rattle.facts.specs.declared.names.NoFact.{NoFact}
@@ -8,7 +8,6 @@ use Rattle.facts.specs.declared.names.NoFact.TheVariants as none
 use Rattle.facts.specs.Numbering.{has_form}
 use Rattle.depots.specs.declared.troubles.Trouble.{Trouble}
 use Rattle.depots.specs.declared.troubles.Trouble.TheVariants.{NotItsForm, NotListed}
-use Rattle.depots.specs.Fields.{as_trouble}
 use Rattle.depots.specs.Settings.{joined_to, gathered}
 
 -- the numbers that were read, and the parts still to come, come to
@@ -43,23 +42,19 @@ abbrev pub left : Option (List ℕ) → ℕ
 left None = 0
 left (Some bs) = suc (length bs)
 
--- the numbers were read so far, and the rest are the parts still to come, which have their form
+-- the numbers were read so far, and the rest are the parts still to come
 pub record Gathering (number : List ℕ → Result ℕ NoFact) (parts : List (List ℕ)) (ns : List ℕ) (rest : List (List ℕ)) : Type 0 where
   pub whole : and_then ns (gathered (map number rest)) ≡ gathered (map number parts)
-  pub formed : list_all (λ part. has_form (number part)) rest ≡ true
   pub room : length ns + length rest ≤ 8
 
 module _ (number : List ℕ → Result ℕ NoFact) (parts : List (List ℕ)) where
-  pub formless : list_all (λ part. has_form (number part)) parts ≡ false → gathered (map number parts) ≡ Err NotItsForm
-  formless is = formless_told (map number parts) (list_all-map has_form number parts ∙ is)
+  -- a part that is not listed, before others
+  pub before_formed : list_all (λ part. has_form (number part)) parts ≡ true → joined_to (Err none.NotListed) (gathered (map number parts)) ≡ Err NotListed
+  before_formed formed = unlisted_told (map number parts) (list_all-map has_form number parts ∙ formed)
 
-  module _ (ns : List ℕ) (rest : List (List ℕ)) (now : Gathering number parts ns rest) (part : List ℕ) (more : List (List ℕ)) (next : rest ≡ part ∷ more) where
-    here : (x : Result ℕ NoFact) → number part ≡ x → and_then ns (joined_to x (gathered (map number more))) ≡ gathered (map number parts)
-    here x is = ap (λ y. and_then ns (joined_to y (gathered (map number more)))) (sym is) ∙ ap (λ ps. and_then ns (gathered (map number ps))) (sym next) ∙ now.whole
+  pub before_formless : list_all (λ part. has_form (number part)) parts ≡ false → joined_to (Err none.NotListed) (gathered (map number parts)) ≡ Err NotItsForm
+  before_formless is = ap (joined_to (Err none.NotListed)) (formless_told (map number parts) (list_all-map has_form number parts ∙ is))
 
-    have_form : (has_form (number part) ≡ true) × (list_all (λ part. has_form (number part)) more ≡ true)
-    have_form = and_parts _ _ (ap (list_all (λ part. has_form (number part))) (sym next) ∙ now.formed)
-
-    pub told : (why : NoFact) → number part ≡ Err why → gathered (map number parts) ≡ Err (as_trouble why)
-    told none.NotListed is = sym (here (Err none.NotListed) is) ∙ ap (and_then ns) (unlisted_told (map number more) (list_all-map has_form number more ∙ have_form.1))
-    told none.NotItsForm is = absurd (both_ways _ (ap has_form is) have_form.0)
+  -- what is told of a part goes for the whole list
+  pub told_of : (ns : List ℕ) (rest : List (List ℕ)) → Gathering number parts ns rest → (part : List ℕ) (more : List (List ℕ)) → rest ≡ part ∷ more → (why : NoFact) → number part ≡ Err why → (t : Trouble) → Err t ≡ joined_to (Err why) (gathered (map number more)) → gathered (map number parts) ≡ Err t
+  told_of ns rest now part more next why is t told = sym now.whole ∙ ap (λ ps. and_then ns (gathered (map number ps))) next ∙ ap (λ y. and_then ns (joined_to y (gathered (map number more)))) is ∙ ap (and_then ns) (sym told)

@@ -7,6 +7,7 @@ pub mod Gathered
 pub mod Grown
 pub mod Kept
 pub mod Listings
+pub mod Named
 pub mod Returned
 pub mod Told
 pub mod Viewed

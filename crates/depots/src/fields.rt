@@ -1,7 +1,9 @@
 // The fields of a line, read under what the lines above list.
-ghost use Rattle.std.specs.Prelude.{◌≡◌, map};
+ghost use Rattle.std.specs.Prelude.{◌≡◌, cond, Some, None};
 ghost use Rattle.std.specs.Result.{result_err};
-ghost use Rattle.depots.specs.Fields.{unlisted_name, new_name, new_fact, new_start};
+ghost use Rattle.sheets.specs.Names.{is_name};
+ghost use Rattle.depots.specs.declared.troubles.Trouble.TheVariants.{NotItsForm, Twice};
+ghost use Rattle.depots.specs.Fields.{new_name, new_fact, new_start};
 ghost use Rattle.facts.specs.Numbering.{number_under};
 
 use crate::troubles::Trouble;
@@ -20,14 +22,23 @@ pub struct Fields<'a> {
     pub fourth: &'a [u8],
 }
 
-// What is wrong with a text that is to be a new name, if anything is. It is told whether the name is listed, since names
-// and moves are lists of two kinds, and a trait for that one question would be longer.
-pub(crate) fn unlisted_name(is_listed: bool, text: &[u8]) -> Result<(), Trouble>
-    ensures { result_err result ≡ unlisted_name is_listed text.now }
+// Whether a text that is to be a name has the form of one. It is asked first, so that no list is looked through for a text
+// that is no name.
+pub(crate) fn refuse_if_no_name(text: &[u8]) -> Result<(), Trouble>
+    ensures { result_err result ≡ cond (is_name text.now) None (Some NotItsForm) }
 {
-    if !names::is_name(text) {
-        return Err(Trouble::NotItsForm);
+    if names::is_name(text) {
+        Ok(())
+    } else {
+        Err(Trouble::NotItsForm)
     }
+}
+
+// Whether a name is listed already. It is told so, since names and moves are lists of two kinds, and a trait for that one
+// question would be longer.
+pub(crate) fn refuse_if_listed(is_listed: bool) -> Result<(), Trouble>
+    ensures { result_err result ≡ cond is_listed (Some Twice) None }
+{
     if is_listed {
         Err(Trouble::Twice)
     } else {
@@ -39,7 +50,8 @@ pub(crate) fn unlisted_name(is_listed: bool, text: &[u8]) -> Result<(), Trouble>
 pub fn new_name(listed: &[Name], text: &[u8]) -> Result<(), Trouble>
     ensures { result_err result ≡ new_name listed.now text.now }
 {
-    unlisted_name(listed::find(listed, text).is_some(), text)
+    refuse_if_no_name(text)?;
+    refuse_if_listed(listed::find(listed, text).is_some())
 }
 
 // The fact that a field lists anew.

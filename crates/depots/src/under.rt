@@ -10,7 +10,7 @@ ghost use Rattle.depots.specs.Wrong.{before_last, number_among};
 
 use crate::depot::{Depot, Effect};
 use crate::fact_list::FactList;
-use crate::fields::unlisted_name;
+use crate::fields::{refuse_if_listed, refuse_if_no_name};
 use crate::formula_field::{SizedFormula, formula_field};
 use crate::settings::fact_list;
 use crate::troubles::Trouble;
@@ -55,7 +55,8 @@ impl<K: Kind> Depot<K> {
     pub(crate) fn new_move_name(&self, text: &[u8]) -> Result<(), Trouble>
         ensures { result_err result ≡ new_name (tables_of self.now).names text.now }
     {
-        unlisted_name(self.moves.iter().any(|listed| listed.name.is(text)), text)
+        refuse_if_no_name(text)?;
+        refuse_if_listed(self.moves.iter().any(|listed| listed.name.is(text)))
     }
 
     // The effects so far. Cut to the table: that the count is within it would ask a proof of each line that adds an effect.

@@ -1,5 +1,6 @@
 -- A row that is marked place by place. Assumes nothing.
-use Rattle.std.proofs.Common.{◌≡◌, ℕ, ◌+◌, ◌<◌, ◌≤◌, Bool, false, List, [], ◌∷◌, ◌++◌, length, get_or, take, drop, set, sym, refl, ap, ◌∙◌, append_assoc, arith}
+use Rattle.std.proofs.Common.{◌≡◌, ℕ, ◌+◌, ◌<◌, ◌≤◌, Bool, false, List, [], ◌∷◌, ◌++◌, length, get_or, take, drop, set, min, sym, refl, ap, ◌∙◌, ⊎_elim, append_assoc, arith}
+use Rattle.std.proofs.lemmas.Bool.{cases_lt}
 use Rattle.std.proofs.lemmas.List.{append-nil, take-append-drop, take_all, take_more_set, drop_all, drop_more, drop-set-lt}
 use Rattle.facts.specs.Listed.{remarked}
 
@@ -28,9 +29,8 @@ module _ {F : Type 0} (settle : Bool → F → Bool) (facts : List F) (entry : L
   stays : (row : List Bool) (i : ℕ) → length facts ≤ i → take i row ++ remarked settle (drop i facts) (drop i row) ≡ row
   stays row i over = ap (λ l. take i row ++ remarked settle l (drop i row)) (drop_all i facts over) ∙ take-append-drop i row
 
-  pub mark_past : (row : List Bool) (i : ℕ) → length facts ≤ i → Marking row i → Marking row (i + 1)
-  mark_past row i over sofar = stays row (i + 1) (omega arith) ∙ sym (stays row i over) ∙ sofar
-
-  pub mark_all : (row : List Bool) (i : ℕ) → length row ≤ i → Marking row i → row ≡ remarked settle facts entry
-  mark_all row i end sofar =
-      sym (ap (λ l. take i row ++ remarked settle (drop i facts) l) (drop_all i row end) ∙ ap (λ l. take i row ++ l) (no_row settle (drop i facts)) ∙ append-nil (take i row) ∙ take_all i row end) ∙ sofar
+  pub mark_all : (row : List Bool) (i : ℕ) → min (length facts) (length row) ≤ i → Marking row i → row ≡ remarked settle facts entry
+  mark_all row i end sofar = ⊎_elim (λ (below : i < length facts). ended (omega arith) ∙ sofar) (λ (over : length facts ≤ i). sym (stays row i over) ∙ sofar) (cases_lt i (length facts))
+    where
+      ended : length row ≤ i → row ≡ take i row ++ remarked settle (drop i facts) (drop i row)
+      ended past = sym (ap (λ l. take i row ++ remarked settle (drop i facts) l) (drop_all i row past) ∙ ap (λ l. take i row ++ l) (no_row settle (drop i facts)) ∙ append-nil (take i row) ∙ take_all i row past)

@@ -9,12 +9,12 @@ use crate::marks::remark;
 pub fn add_carried<K: Kind>(facts: &[K::Fact], fact: &K::Fact, row: &mut [bool])
     ensures { row.new ≡ also_marked (λ listed. K.carrying fact.now listed) facts.now row.old }
 {
-    remark(facts, row, |mark, listed| mark || K::carries(fact, listed));
+    remark(facts, row, |mark, listed| mark | K::carries(fact, listed));
 }
 
 // Marks the listed facts that carry a fact, as far as the row reaches; other marks stay.
 pub fn add_carriers<K: Kind>(facts: &[K::Fact], fact: &K::Fact, row: &mut [bool])
     ensures { row.new ≡ also_marked (λ listed. K.carrying listed fact.now) facts.now row.old }
 {
-    remark(facts, row, |mark, listed| mark || K::carries(listed, fact));
+    remark(facts, row, |mark, listed| mark | K::carries(listed, fact));
 }

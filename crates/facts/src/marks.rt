@@ -7,10 +7,9 @@ pub(crate) fn remark<F, M: Fn(bool, &F) -> bool>(facts: &[F], row: &mut [bool], 
     requires { M.IsAlwaysCallable mark }
     ensures { (settle : Bool → F → Bool) → ((b : _) (f : _) (r : _) → M.post mark b f r → r ≡ settle b f.now) → row.new ≡ remarked settle facts.now row.old }
 {
-    // By the place, since of a `zip` with the row a proof knows no more than how long the row is.
-    for (i, b) in row.iter_mut().enumerate() {
-        if let Some(fact) = facts.get(i) {
-            *b = mark(*b, fact);
-        }
+    // By the place, since of a `zip` with the row a proof knows no more than how long the row is; and no further than the
+    // shorter of the two.
+    for i in 0..facts.len().min(row.len()) {
+        row[i] = mark(row[i], &facts[i]);
     }
 }

@@ -49,7 +49,7 @@ fn parts_fit(text: &[u8]) -> bool
 fn has_form(text: &[u8]) -> bool
     ensures { result ≡ formed (parts_of text.now) }
 {
-    pieces::count(text, FULL_STOP) <= MOST_WATCHERS + 1 && parts_fit(text)
+    pieces::has_at_most(text, FULL_STOP, MOST_WATCHERS + 1) && parts_fit(text)
 }
 
 fn listed_watcher(zones: &[Name], part: &[u8]) -> Result<Watcher, NoFact>

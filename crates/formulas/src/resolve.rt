@@ -72,7 +72,7 @@ fn numbers<K: Kind>(
             Ok(Formula::Not(Box::new(heap, numbered)?))
         }
         Formula::All(inner) => {
-            let all = inner
+            let mut all: Vec<Formula<usize>> = inner
                 .iter()
                 .map(
                     |one|
@@ -80,6 +80,8 @@ fn numbers<K: Kind>(
                     { numbers(heap, listed, one) },
                 )
                 .try_collect(heap)?;
+            // A sheet's formulas are kept, and a row that grew has more room than it needs.
+            all.shrink_to_fit();
             Ok(Formula::All(all))
         }
     }

@@ -88,7 +88,7 @@ impl Above {
             return Err(Refusal::BadLine);
         }
         let letter = self.letter_on(line).ok_or(Refusal::BadLetter)?;
-        if pieces::count(line.text, TAB) != letter.fields() {
+        if !pieces::has_pieces(line.text, TAB, letter.fields()) {
             return Err(Refusal::FieldCount);
         }
         Ok(letter)

@@ -1,7 +1,7 @@
 // A text cut at a mark: what lines, fields and the parts of a fact have in common. The pieces are those of the library's
 // `split`; where all parts of a fact are looked at, or the last one is cut off, the library is called there. A text and
 // its mark come as two values, since lines, fields and parts have each a mark of their own.
-ghost use Rattle.std.specs.Prelude.{◌≡◌, ◌<◌, ◌∷◌, length, IfSome};
+ghost use Rattle.std.specs.Prelude.{◌≡◌, ◌<◌, ◌∷◌, length, IfSome, ◌==◌, nat_le};
 ghost use Rattle.std.specs.Option.{option_map};
 ghost use Rattle.std.specs.List.{slice_get};
 ghost use Rattle.sheets.specs.Pieces.{pieces, following};
@@ -29,4 +29,18 @@ pub fn count(text: &[u8], mark: u8) -> usize
     ensures { result ≡ length (pieces mark text.now) }
 {
     text.split(|b| *b == mark).count()
+}
+
+// Whether a text has so many pieces at the most. What stands behind those is not looked at.
+pub fn has_at_most(text: &[u8], mark: u8, n: usize) -> bool
+    ensures { result ≡ nat_le (length (pieces mark text.now)) n }
+{
+    piece(text, mark, n).is_none()
+}
+
+// Whether a text has just so many pieces. What stands behind one more is not looked at.
+pub fn has_pieces(text: &[u8], mark: u8, n: usize) -> bool
+    ensures { result ≡ (length (pieces mark text.now) == n) }
+{
+    n != 0 && text.split(|b| *b == mark).take(n.saturating_add(1)).count() == n
 }

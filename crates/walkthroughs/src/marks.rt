@@ -55,10 +55,8 @@ impl Marks {
         ensures { standing self.new ≡ turned (standing self.old) number }
     {
         // No `get_mut`, since of a slice that was written through it a proof knows no element.
-        if let Some(i) = number.checked_sub(1)
-            && i < MOST_MARKS
-        {
-            self.on[i] = !self.on[i];
+        if 0 < number && number <= MOST_MARKS {
+            self.on[number - 1] = !self.on[number - 1];
         }
     }
 }

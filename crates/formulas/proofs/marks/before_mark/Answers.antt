@@ -13,4 +13,5 @@ or_end n l h = grind (arith, nat_tests)
 pub returns-clause-value : goal.returns-clause-value
 returns-clause-value c =
     let found = position_from_yields_List is_mark _ _ c.position.result c.position.ensures.ran (YieldsList-from_slice c.args.text.now cc) (λ x b q k. search (rules, tests)) in
-    c.unwrap_or.ensures ∙ ap (λ r. unwrap_or r (length c.args.text.now)) found ∙ or_end _ _ (prefix_len-le-length _ c.args.text.now)
+    let value = ap (λ r. unwrap_or r (length c.args.text.now)) found ∙ or_end _ _ (prefix_len-le-length _ c.args.text.now) in
+    search rules

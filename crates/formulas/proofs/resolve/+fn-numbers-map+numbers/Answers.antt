@@ -36,4 +36,4 @@ returns-in_ok-all-in-All g t c =
     let left : iter_rest (map_source c.map.result) ≡ c.in-All.inner.items = cc in
     let got = collected (number_under g.K.Kind c.args.listed.now) _ c.in-All.inner.items ran.0 ran.1 c.in_ok-all-in-All.all (rw (← left) each) ran.4 (λ v r w s. (s.0, s.1, s.2.0)) in
     let items = got.1 ∙ ap (λ l. l ++ got.0) ran.3.0 in
-    all_numbered (number_under g.K.Kind c.args.listed.now) c.args.formula.now c.in-All.inner c.in_ok-all-in-All.all c.in-All.is (subst (AllNumbered (number_under g.K.Kind c.args.listed.now) c.in-All.inner.items) (sym items) got.2)
+    all_numbered (number_under g.K.Kind c.args.listed.now) c.args.formula.now c.in-All.inner c.shrink_to_fit.new.self c.in-All.is (subst (AllNumbered (number_under g.K.Kind c.args.listed.now) c.in-All.inner.items) (sym (c.shrink_to_fit.ensures.items ∙ items)) got.2)

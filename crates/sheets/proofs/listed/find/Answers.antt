@@ -9,4 +9,5 @@ use Rattle.sheets.proofs.listed.find.Goals as goal
 pub returns : goal.returns
 returns c =
     let sought = first_from-position (λ t. bytes_eq t c.args.text.now) 0 c.args.names.now in
-    position_from_yields_List (λ t. bytes_eq t c.args.text.now) _ _ c.position.result c.position.ensures.ran (YieldsList-from_slice c.args.names.now cc) (λ x b q k. search (rules, tests)) ∙ sym (rw zero-add at sought)
+    let place = position_from_yields_List (λ t. bytes_eq t c.args.text.now) _ _ c.position.result c.position.ensures.ran (YieldsList-from_slice c.args.names.now cc) (λ x b q k. search (rules, tests)) ∙ sym (rw zero-add at sought) in
+    search rules
