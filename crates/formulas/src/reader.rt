@@ -55,16 +55,10 @@ fn brackets<'a>(
     // A loop, since where the next formula begins is known only when one is read.
     loop {
         let (one, after) = formula(heap, left, depth)?;
-        // What goes on is looked at first, so that a text that breaks off asks for no room.
+        all.push(one)?;
         match after {
-            [b'&', next @ ..] => {
-                all.push(one)?;
-                left = next;
-            }
-            [b')', rest @ ..] => {
-                all.push(one)?;
-                return Ok((all, rest));
-            }
+            [b'&', next @ ..] => left = next,
+            [b')', rest @ ..] => return Ok((all, rest)),
             _ => return Err(Unread::NotItsForm),
         }
     }

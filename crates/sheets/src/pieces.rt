@@ -31,14 +31,14 @@ pub fn count(text: &[u8], mark: u8) -> usize
     text.split(|b| *b == mark).count()
 }
 
-// Whether a text has so many pieces at the most. What stands behind those is not looked at.
+// Whether a text has so many pieces at the most. Of those that are too many only the first is looked at.
 pub fn has_at_most(text: &[u8], mark: u8, n: usize) -> bool
     ensures { result ≡ nat_le (length (pieces mark text.now)) n }
 {
     piece(text, mark, n).is_none()
 }
 
-// Whether a text has just so many pieces. What stands behind one more is not looked at.
+// Whether a text has just so many pieces. Of those that are too many only the first is looked at.
 pub fn has_pieces(text: &[u8], mark: u8, n: usize) -> bool
     ensures { result ≡ (length (pieces mark text.now) == n) }
 {

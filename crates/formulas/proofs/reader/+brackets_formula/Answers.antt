@@ -14,11 +14,11 @@ brackets-returns-in_err-one t c =
 
 pub brackets-loop-all-preserved : goal.brackets-loop-all-preserved
 brackets-loop-all-preserved t c =
-    rw c.in_ok-push-in-38.ensures.items (one_read c.loop-all.invariant c.in_ok-one.one c.in_ok-one.after.now c.in_ok-one.ensures _ (grind (arith, common_steps)))
+    rw c.in_ok-push.ensures.items (one_read c.loop-all.invariant c.in_ok-one.one c.in_ok-one.after.now c.in_ok-one.ensures _ (grind (arith, common_steps)))
 
 pub brackets-returns-in-41 : goal.brackets-returns-in-41
 brackets-returns-in-41 t c =
-    rw c.in_ok-push-in-41.ensures.items (all_read c.loop-all.invariant c.in_ok-one.one c.in_ok-one.after.now c.in_ok-one.ensures _ (grind (arith, common_steps)))
+    rw c.in_ok-push.ensures.items (all_read c.loop-all.invariant c.in_ok-one.one c.in_ok-one.after.now c.in_ok-one.ensures _ (grind (arith, common_steps)))
 
 pub brackets-returns-in_default : goal.brackets-returns-in_default
 brackets-returns-in_default t c =
