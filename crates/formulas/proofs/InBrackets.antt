@@ -1,5 +1,6 @@
 -- A list in brackets, read formula by formula. Assumes nothing.
-use Rattle.std.proofs.Common.{◌≡◌, ℕ, List, [], ◌∷◌, ◌++◌, Bor, Err, refl, ap, ◌∙◌, subst}
+use Rattle.std.proofs.Common.{◌≡◌, ℕ, Bool, true, ◌&&◌, List, [], ◌∷◌, ◌++◌, Bor, Err, refl, sym, ap, ◌∙◌, subst}
+use Rattle.std.proofs.lemmas.Bool.{and_parts}
 use Rattle.formulas.specs.declared.tree.Formula.{Formula as Tree}
 use Rattle.formulas.specs.declared.tree.Unread.{Unread}
 use Rattle.formulas.specs.declared.tree.Unread.TheVariants.{NotItsForm, NoMemory}
@@ -27,6 +28,12 @@ module _ (d : ℕ) (text : List ℕ) where
     pub found : (qs : Formulas (List ℕ)) (rest : List ℕ) → GoesOn d left qs rest → GoesOn d text (before ts qs) rest
     pub missed : ((qs : Formulas (List ℕ)) (rest : List ℕ) → GoesOn d left qs rest → ⊥) → (qs : Formulas (List ℕ)) (rest : List ℕ) → GoesOn d text qs rest → ⊥
 
+  -- with some formulas read, of which the row has each where none of them wanted for room, the same
+  pub record Kept (all : Bool) (row : List (Tree (Bor (List ℕ)))) (left : List ℕ) : Type 0 where
+    pub read : List (Tree (Bor (List ℕ)))
+    pub onward : Onward read left
+    pub row_is : all ≡ true → row ≡ read
+
 module _ {d : ℕ} {text : List ℕ} {ts : List (Tree (Bor (List ℕ)))} {left : List ℕ} (so_far : Onward d text ts left) where
   pub not_read : (e : Unread) → Formed d left (Err e) → FormedOn d text (Err e)
   not_read NotItsForm h = so_far.missed (no_first d left h)
@@ -44,3 +51,15 @@ module _ {d : ℕ} {text : List ℕ} {ts : List (Tree (Bor (List ℕ)))} {left :
 
     pub neither : Lacks 38 after → Lacks 41 after → FormedOn d text (Err NotItsForm)
     neither no-and no-close = so_far.missed (broken_off d left (texted t) after first no-and no-close)
+
+module _ {d : ℕ} {text : List ℕ} {all : Bool} {row : List (Tree (Bor (List ℕ)))} {left : List ℕ} (so_far : Kept d text all row left) where
+  module _ (t : Tree (Bor (List ℕ))) (after : List ℕ) (first : Begins d left (texted t) after) (found : Bool) (longer : List (Tree (Bor (List ℕ)))) (adds : found ≡ true → longer ≡ row ++ (t ∷ [])) where
+    -- a row that had each, and room for one more, has each
+    added : all && found ≡ true → longer ≡ so_far.read ++ (t ∷ [])
+    added both = let each = and_parts all found both in adds each.1 ∙ ap (λ l. l ++ (t ∷ [])) (so_far.row_is each.0)
+
+    pub one_kept : (next : List ℕ) → after ≡ 38 ∷ next → Kept d text (all && found) longer next
+    one_kept next is = record { read = so_far.read ++ (t ∷ []); onward = one_read so_far.onward t after first next is; row_is = added }
+
+    pub all_kept : (rest : List ℕ) → after ≡ 41 ∷ rest → all && found ≡ true → GoesOn d text (texted_all longer) rest
+    all_kept rest is both = subst (λ l. GoesOn d text (texted_all l) rest) (sym (added both)) (all_read so_far.onward t after first rest is)

@@ -51,14 +51,17 @@ fn brackets<'a>(
     ensures { FormedOn depth text.now result }
 {
     let mut all = Vec::new(heap);
+    let mut kept = true;
     let mut left = text;
     // A loop, since where the next formula begins is known only when one is read.
     loop {
         let (one, after) = formula(heap, left, depth)?;
-        all.push(one)?;
+        // Want of room is told only of a row that is whole: one that breaks off has not its form, whatever room there is.
+        kept &= all.push(one).is_ok();
         match after {
             [b'&', next @ ..] => left = next,
-            [b')', rest @ ..] => return Ok((all, rest)),
+            [b')', rest @ ..] if kept => return Ok((all, rest)),
+            [b')', ..] => return Err(Unread::NoMemory),
             _ => return Err(Unread::NotItsForm),
         }
     }

@@ -2,7 +2,7 @@ use Rattle.std.proofs.Common.{◌<◌, ◌-◌, length, take, drop, arith, rules
 use Rattle.std.proofs.lemmas.Result.{err_from_is_err_and}
 use Rattle.std.proofs.lemmas.Grind.{common_steps}
 use Rattle.formulas.proofs.Exits.{fact_answers, refused_turn, refused_bracket}
-use Rattle.formulas.proofs.InBrackets.{not_read, one_read, all_read, neither}
+use Rattle.formulas.proofs.InBrackets.{not_read, neither, one_kept, all_kept}
 use Rattle.formulas.proofs.Steps.{turned, bracketed, no_formulas}
 use Rattle.formulas.proofs.Trees.{shape_of_not, shape_of_all}
 use Rattle.formulas.proofs.reader.+brackets_formula.Goals as goal
@@ -10,19 +10,19 @@ use Rattle.formulas.proofs.reader.+brackets_formula.Goals as goal
 pub brackets-returns-in_err-one : goal.brackets-returns-in_err-one
 brackets-returns-in_err-one t c =
     let p = err_from_is_err_and c.from_residual.result c.from_residual.ensures.1 in
-    rw (p.1, p.2) (not_read c.loop-all.invariant _ c.in_err-one.ensures)
+    rw (p.1, p.2) (not_read c.loop-all.invariant.onward _ c.in_err-one.ensures)
 
 pub brackets-loop-all-preserved : goal.brackets-loop-all-preserved
 brackets-loop-all-preserved t c =
-    rw c.in_ok-push.ensures.items (one_read c.loop-all.invariant c.in_ok-one.one c.in_ok-one.after.now c.in_ok-one.ensures _ (grind (arith, common_steps)))
+    one_kept c.loop-all.invariant c.in_ok-one.one c.in_ok-one.after.now c.in_ok-one.ensures _ _ (λ found. search rules) _ (grind (arith, common_steps))
 
 pub brackets-returns-in-41 : goal.brackets-returns-in-41
 brackets-returns-in-41 t c =
-    rw c.in_ok-push.ensures.items (all_read c.loop-all.invariant c.in_ok-one.one c.in_ok-one.after.now c.in_ok-one.ensures _ (grind (arith, common_steps)))
+    all_kept c.loop-all.invariant c.in_ok-one.one c.in_ok-one.after.now c.in_ok-one.ensures _ _ (λ found. search rules) _ (grind (arith, common_steps)) c.if-kept.true
 
 pub brackets-returns-in_default : goal.brackets-returns-in_default
 brackets-returns-in_default t c =
-    neither c.loop-all.invariant c.in_ok-one.one c.in_ok-one.after.now c.in_ok-one.ensures (λ rest e. search rules) (λ rest e. search rules)
+    neither c.loop-all.invariant.onward c.in_ok-one.one c.in_ok-one.after.now c.in_ok-one.ensures (λ rest e. search rules) (λ rest e. search rules)
 
 pub formula-returns-in_err-inner-in-33 : goal.formula-returns-in_err-inner-in-33
 formula-returns-in_err-inner-in-33 t c =
