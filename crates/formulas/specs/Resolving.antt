@@ -21,6 +21,10 @@ abbrev mutual
   each_passes_in test none = true
   each_passes_in test (more p ps) = each_passes test p && each_passes_in test ps
 
+-- A test of facts came out as it does where each fact has its result by itself.
+abbrev pub Tests : {F : Type 0} → (F → Bool → Type 0) → Formula F → Bool → Type 0
+Tests {F} gives p passed = (test : F → Bool) → ((f : F) (b : Bool) → gives f b → b ≡ test f) → passed ≡ each_passes test p
+
 abbrev mutual
   -- A formula with something else in the place of each fact.
   pub renamed : {F G : Type 0} → (F → G) → Formula F → Formula G
@@ -55,9 +59,9 @@ Numbers number p (Err (unresolved.NoFact no_fact.NotListed)) = each_passes (λ t
 Numbers number p (Err unresolved.NoMemory) = Unit {0}
 
 -- What a formula over texts comes to. A fact that has not its form, wherever it stands, comes before one that is not
--- listed. Memory can be wanting only once every fact has its form.
+-- listed. Memory can be wanting only once every fact is listed.
 abbrev pub Resolves : (List ℕ → Result ℕ NoFact) → Formula (List ℕ) → Result (Tree ℕ) Unresolved → Type 0
 Resolves number p (Ok t) = Numbered number p (numbers t)
 Resolves number p (Err (unresolved.NoFact no_fact.NotItsForm)) = each_passes (λ text. has_form (number text)) p ≡ false
 Resolves number p (Err (unresolved.NoFact no_fact.NotListed)) = (each_passes (λ text. has_form (number text)) p ≡ true) × (each_passes (λ text. is_listed (number text)) p ≡ false)
-Resolves number p (Err unresolved.NoMemory) = each_passes (λ text. has_form (number text)) p ≡ true
+Resolves number p (Err unresolved.NoMemory) = each_passes (λ text. is_listed (number text)) p ≡ true

@@ -1,8 +1,9 @@
 // A formula over texts as one over the numbers of listed facts.
 ghost use Rattle.std.specs.Prelude.{◌≡◌};
 ghost use Rattle.formulas.specs.declared.resolve.Unresolved.TheVariants.{NoFact, NoMemory};
-ghost use Rattle.formulas.specs.Resolving.{each_passes, Numbers, Resolves};
+ghost use Rattle.formulas.specs.Resolving.{each_passes, is_listed, Numbers, Resolves, Tests};
 ghost use Rattle.facts.specs.Numbering.{has_form, number_under};
+ghost use Rattle.std.specs.Fn.{FnReturnsAt};
 ghost use Rattle.formulas.specs.Shapes.{texted};
 
 use crate::tree::Formula;
@@ -42,19 +43,35 @@ impl<T: Drop> From<AllocFailed<T>> for Unresolved {
     }
 }
 
+// Whether every fact of a formula passes a test.
+fn each_passes<T: Fn(&[u8]) -> bool>(formula: &Formula<&[u8]>, test: &T) -> bool
+    requires { T.IsAlwaysCallable test.now }
+    ensures { Tests (FnReturnsAt T.Fn test.now) (texted formula.now) result }
+{
+    match formula {
+        Formula::Fact(text) => test(text),
+        Formula::Not(inner) => each_passes(inner, test),
+        Formula::All(inner) => inner.iter().all(
+            |one|
+                requires { T.IsAlwaysCallable test.now }
+                ensures { Tests (FnReturnsAt T.Fn test.entry.now) (texted one.now) result }
+            { each_passes(one, test) },
+        ),
+    }
+}
+
 // Whether every fact of a formula has the form of one, be it listed or not.
 fn all_formed<K: Kind>(listed: &ListedFacts<K>, formula: &Formula<&[u8]>) -> bool
     ensures { result ≡ each_passes (λ text. has_form (number_under K.Kind listed.now text)) (texted formula.now) }
 {
-    match formula {
-        Formula::Fact(text) => listed.has_form(text),
-        Formula::Not(inner) => all_formed(listed, inner),
-        Formula::All(inner) => inner.iter().all(
-            |one|
-                ensures { result ≡ each_passes (λ text. has_form (number_under K.Kind listed.entry.now text)) (texted one.now) }
-            { all_formed(listed, one) },
-        ),
-    }
+    each_passes(formula, &|text: &[u8]| listed.has_form(text))
+}
+
+// Whether every fact of a formula is listed.
+fn all_listed<K: Kind>(listed: &ListedFacts<K>, formula: &Formula<&[u8]>) -> bool
+    ensures { result ≡ each_passes (λ text. is_listed (number_under K.Kind listed.now text)) (texted formula.now) }
+{
+    each_passes(formula, &|text: &[u8]| listed.number_of(text).is_ok())
 }
 
 // A formula with the number of each fact, or a fault of some fact.
@@ -99,5 +116,11 @@ pub fn resolve<K: Kind>(
     if !all_formed(listed, formula) {
         return Err(Unresolved::NoFact(NoFact::NotItsForm));
     }
-    numbers(heap, listed, formula)
+    match numbers(heap, listed, formula) {
+        // A fact that is not listed is told so, whatever room there is.
+        Err(Unresolved::NoMemory) if !all_listed(listed, formula) => {
+            Err(Unresolved::NoFact(NoFact::NotListed))
+        }
+        told => told,
+    }
 }
