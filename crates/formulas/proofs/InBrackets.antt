@@ -1,6 +1,5 @@
 -- A list in brackets, read formula by formula. Assumes nothing.
-use Rattle.std.proofs.Common.{◌≡◌, ℕ, Bool, true, ◌&&◌, List, [], ◌∷◌, ◌++◌, Bor, Err, refl, sym, ap, ◌∙◌, subst}
-use Rattle.std.proofs.lemmas.Bool.{and_parts}
+use Rattle.std.proofs.Common.{◌≡◌, ℕ, Bool, true, List, [], ◌∷◌, ◌++◌, Bor, Err, refl, sym, ap, ◌∙◌, subst}
 use Rattle.formulas.specs.declared.tree.Formula.{Formula as Tree}
 use Rattle.formulas.specs.declared.tree.Unread.{Unread}
 use Rattle.formulas.specs.declared.tree.Unread.TheVariants.{NotItsForm, NoMemory}
@@ -53,13 +52,13 @@ module _ {d : ℕ} {text : List ℕ} {ts : List (Tree (Bor (List ℕ)))} {left :
     neither no-and no-close = so_far.missed (broken_off d left (texted t) after first no-and no-close)
 
 module _ {d : ℕ} {text : List ℕ} {all : Bool} {row : List (Tree (Bor (List ℕ)))} {left : List ℕ} (so_far : Kept d text all row left) where
-  module _ (t : Tree (Bor (List ℕ))) (after : List ℕ) (first : Begins d left (texted t) after) (found : Bool) (longer : List (Tree (Bor (List ℕ)))) (adds : found ≡ true → longer ≡ row ++ (t ∷ [])) where
-    -- a row that had each, and room for one more, has each
-    added : all && found ≡ true → longer ≡ so_far.read ++ (t ∷ [])
-    added both = let each = and_parts all found both in adds each.1 ∙ ap (λ l. l ++ (t ∷ [])) (so_far.row_is each.0)
+  -- where one more had room too, and those before it had
+  module _ (t : Tree (Bor (List ℕ))) (after : List ℕ) (first : Begins d left (texted t) after) (still : Bool) (longer : List (Tree (Bor (List ℕ)))) (adds : still ≡ true → (all ≡ true) × (longer ≡ row ++ (t ∷ []))) where
+    added : still ≡ true → longer ≡ so_far.read ++ (t ∷ [])
+    added had = (adds had).1 ∙ ap (λ l. l ++ (t ∷ [])) (so_far.row_is (adds had).0)
 
-    pub one_kept : (next : List ℕ) → after ≡ 38 ∷ next → Kept d text (all && found) longer next
+    pub one_kept : (next : List ℕ) → after ≡ 38 ∷ next → Kept d text still longer next
     one_kept next is = record { read = so_far.read ++ (t ∷ []); onward = one_read so_far.onward t after first next is; row_is = added }
 
-    pub all_kept : (rest : List ℕ) → after ≡ 41 ∷ rest → all && found ≡ true → GoesOn d text (texted_all longer) rest
-    all_kept rest is both = subst (λ l. GoesOn d text (texted_all l) rest) (sym (added both)) (all_read so_far.onward t after first rest is)
+    pub all_kept : (rest : List ℕ) → after ≡ 41 ∷ rest → still ≡ true → GoesOn d text (texted_all longer) rest
+    all_kept rest is had = subst (λ l. GoesOn d text (texted_all l) rest) (sym (added had)) (all_read so_far.onward t after first rest is)

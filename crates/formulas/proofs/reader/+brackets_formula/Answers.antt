@@ -1,4 +1,4 @@
-use Rattle.std.proofs.Common.{◌<◌, ◌-◌, length, take, drop, arith, rules}
+use Rattle.std.proofs.Common.{◌<◌, ◌-◌, length, take, drop, arith, rules, tests}
 use Rattle.std.proofs.lemmas.Result.{err_from_is_err_and}
 use Rattle.std.proofs.lemmas.Grind.{common_steps}
 use Rattle.formulas.proofs.Exits.{fact_answers, refused_turn, refused_bracket}
@@ -14,11 +14,11 @@ brackets-returns-in_err-one t c =
 
 pub brackets-loop-all-preserved : goal.brackets-loop-all-preserved
 brackets-loop-all-preserved t c =
-    one_kept c.loop-all.invariant c.in_ok-one.one c.in_ok-one.after.now c.in_ok-one.ensures _ _ (λ found. search rules) _ (grind (arith, common_steps))
+    one_kept c.loop-all.invariant c.in_ok-one.one c.in_ok-one.after.now c.in_ok-one.ensures _ _ (λ still. search (rules, tests)) _ (grind (arith, common_steps))
 
 pub brackets-returns-in-41 : goal.brackets-returns-in-41
 brackets-returns-in-41 t c =
-    all_kept c.loop-all.invariant c.in_ok-one.one c.in_ok-one.after.now c.in_ok-one.ensures _ _ (λ found. search rules) _ (grind (arith, common_steps)) c.if-kept.true
+    all_kept c.loop-all.invariant c.in_ok-one.one c.in_ok-one.after.now c.in_ok-one.ensures _ _ (λ still. search (rules, tests)) _ (grind (arith, common_steps)) c.if-kept.true
 
 pub brackets-returns-in_default : goal.brackets-returns-in_default
 brackets-returns-in_default t c =
