@@ -21,10 +21,6 @@ abbrev mutual
   each_passes_in test none = true
   each_passes_in test (more p ps) = each_passes test p && each_passes_in test ps
 
--- A test of facts came out as it does where each fact has its result by itself.
-abbrev pub Tests : {F : Type 0} → (F → Bool → Type 0) → Formula F → Bool → Type 0
-Tests {F} gives p passed = (test : F → Bool) → ((f : F) (b : Bool) → gives f b → b ≡ test f) → passed ≡ each_passes test p
-
 abbrev mutual
   -- A formula with something else in the place of each fact.
   pub renamed : {F G : Type 0} → (F → G) → Formula F → Formula G
@@ -36,6 +32,10 @@ abbrev mutual
   pub renamed_in : {F G : Type 0} → (F → G) → Formulas F → Formulas G
   renamed_in name none = none
   renamed_in name (more p ps) = more (renamed name p) (renamed_in name ps)
+
+-- A test of every fact of a formula came out as the results of the single facts have it.
+abbrev pub Tests : {F : Type 0} → (F → Bool → Type 0) → Formula F → Bool → Type 0
+Tests {F} gives p passed = (test : F → Bool) → ((f : F) (b : Bool) → gives f b → b ≡ test f) → passed ≡ each_passes test p
 
 -- A text is a listed fact.
 abbrev pub is_listed : Result ℕ NoFact → Bool
