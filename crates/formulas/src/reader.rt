@@ -56,7 +56,7 @@ fn brackets<'a>(
     // A loop, since where the next formula begins is known only when one is read.
     loop {
         let (one, after) = formula(heap, left, depth)?;
-        // Its own want of room is told only of a row that is whole: one that breaks off has not its form, room or not.
+        // Whether each so far found room. Want of it is told only of a whole row: one that breaks off has not its form.
         kept &= all.push(one).is_ok();
         match after {
             [b'&', next @ ..] => left = next,
